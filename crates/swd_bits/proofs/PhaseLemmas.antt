@@ -10,7 +10,8 @@ use Rattle.std.proofs.lemmas.Bool.{eqb-true}
 use Rattle.std.proofs.Math.Nat.{pow-suc}
 use Rattle.swd_bits.specs.Bits.{low_bits}
 use Rattle.swd_bits.specs.Wire.{phase}
-use Rattle.swd_bits.specs.Phases.{data_phase_number, data_phase_word, IsNoDataPhase}
+use Rattle.swd_bits.specs.Phases.{data_phase_number, data_phase_word}
+use Rattle.swd_bits.specs.Wire.{IsNoDataPhase}
 use Rattle.swd_bits.proofs.BitsLemmas.{low_bits-cat, odd-low_bits, low_bits_injective}
 
 xor_first : (r : ℕ) → r < 2 → bit_xor r 1 + r ≡ 1

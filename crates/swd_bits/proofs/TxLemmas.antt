@@ -4,7 +4,8 @@ use Rattle.std.proofs.Common.{◌∷◌, ◌++◌, length, append_assoc, refl, s
 use Rattle.std.specs.Prelude.{if◌then◌else◌}
 use Rattle.std.proofs.lemmas.List.{length-append}
 use Rattle.swd_bits.specs.Bits.{low_bits, odd}
-use Rattle.swd_bits.specs.Wire.{bits_of_request, bits_of_ack, addr_bits}
+use Rattle.swd_bits.specs.Wire.{bits_of_request, addr_bits}
+use Rattle.swd_bits.specs.Acks.{bits_of_ack}
 use Rattle.swd_bits.specs.Transactions.{tx_ack_bits, tx_tail_bits, moved_data_phase, phase_with, IsTxEnd, SpellsTx}
 use Rattle.swd_bits.specs.Transactions.{tx_ending_bits}
 use Rattle.swd_bits.specs.declared.request.Request.{Request}

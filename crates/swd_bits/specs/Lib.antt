@@ -1,9 +1,10 @@
-pub mod Bits
+pub mod Acks
 pub mod BitLists
-pub mod Wire
-pub mod Phases
-pub mod Transactions
+pub mod Bits
 pub mod Listing
-pub mod TraceText
-pub mod One
 pub mod Messages
+pub mod One
+pub mod Phases
+pub mod TraceText
+pub mod Transactions
+pub mod Wire

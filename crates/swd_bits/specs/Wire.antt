@@ -1,11 +1,9 @@
--- Requests, acknowledgements and data phases on the wire, as bits in time order.
-use Rattle.std.specs.Prelude.{ℕ, Bool, true, false, List, [], ◌∷◌, ◌++◌, ◌==◌, if◌then◌else◌}
+-- Requests and data phases on the wire, as bits in time order.
+use Rattle.std.specs.Prelude.{ℕ, Bool, true, false, List, [], ◌∷◌, ◌++◌, ◌==◌, if◌then◌else◌, ◌≡◌, ◌≢◌, ◌<◌, ◌^◌}
 use Rattle.swd_bits.specs.Bits.{low_bits, odd}
 use Rattle.swd_bits.specs.declared.request.Request.{Request}
 use Rattle.swd_bits.specs.declared.request.Reg4.{Reg4}
 use Rattle.swd_bits.specs.declared.request.Reg4.TheVariants.{R0, R4, R8, RC}
-use Rattle.swd_bits.specs.declared.ack.Ack.{Ack}
-use Rattle.swd_bits.specs.declared.ack.Ack.TheVariants.{Ok, Wait, Fault}
 
 -- the two address bits, A[2] first
 abbrev pub addr_bits : Reg4 → List Bool
@@ -24,17 +22,13 @@ bits_of_request q =
     let asked = q.ap ∷ q.read ∷ addr_bits q.addr in
     (true ∷ asked) ++ odd asked ∷ false ∷ true ∷ []
 
-abbrev pub bits_of_ack : Ack → List Bool
-bits_of_ack Ok = true ∷ false ∷ false ∷ []
-bits_of_ack Wait = false ∷ true ∷ false ∷ []
-bits_of_ack Fault = false ∷ false ∷ true ∷ []
-
--- the same three bits as a number, the first in time least significant
-abbrev pub ack_number : Ack → ℕ
-ack_number Ok = 1
-ack_number Wait = 2
-ack_number Fault = 4
-
 -- the word's bits, and its parity
 unfoldable pub phase : ℕ → List Bool
 phase word = low_bits 32 word ++ odd (low_bits 32 word) ∷ []
+
+-- 33 bits that are the phase of this word, and below 33 bits that aren't the phase of a word
+abbrev pub IsDataPhaseOf : ℕ → ℕ → Type 0
+IsDataPhaseOf word bits = phase word ≡ low_bits 33 bits
+
+abbrev pub IsNoDataPhase : ℕ → Type 0
+IsNoDataPhase bits = (word : ℕ) → word < 2 ^ 32 → phase word ≢ low_bits 33 bits

@@ -1,8 +1,10 @@
 -- A clocked target over the bus of its caller.
 use Rattle.std.proofs.Common.{◌≡◌, not, Bool, true, false, ℕ, Option, Some, None, refl, sym, ap, ◌∙◌}
-use Rattle.swd_port.specs.PlainMemory.{PlainMemory, plain_address, succeeds_at}
+use Rattle.swd_port.specs.PlainMemory.{PlainMemory, plain_address}
+use Rattle.swd_port.specs.PlainAnswers.{succeeds_at}
 use Rattle.swd_port.specs.Completion.{memory_after_pending, pending_access_at, pending_fails}
-use Rattle.swd_port.specs.Bus.{Bus, bus_after, bus_answer, bus_of, bus_succeeds}
+use Rattle.swd_port.specs.Bus.{Bus, bus_after, bus_answer, bus_succeeds}
+use Rattle.swd_port.specs.PlainBus.{bus_of}
 use Rattle.swd_port.specs.declared.access.Access.{Access}
 use Rattle.swd_port.specs.declared.access.Access.TheVariants.{Read, Write}
 use Rattle.swd_port.specs.declared.access.Answer.{Answer}

@@ -3,8 +3,9 @@
 -- of its own.
 use Rattle.std.specs.Prelude.{ℕ, ◌≡◌, ◌≢◌, ◌==◌, not, Bool, true, false, Option, Some, None, [], if◌then◌else◌}
 use Rattle.swd_port.specs.PlainMemory.{PlainMemory}
-use Rattle.swd_port.specs.Bus.{Bus, bus_answer, bus_of, bus_succeeds}
-use Rattle.swd_port.specs.Port.{port_made_target}
+use Rattle.swd_port.specs.Bus.{Bus, bus_answer, bus_succeeds}
+use Rattle.swd_port.specs.PlainBus.{bus_of}
+use Rattle.swd_port.specs.Made.{port_made_target}
 use Rattle.swd_port.specs.declared.access.Access.{Access}
 use Rattle.swd_port.specs.declared.access.Access.TheVariants.{Read, Write}
 use Rattle.swd_port.specs.declared.access.Answer.{Answer}

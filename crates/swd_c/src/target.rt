@@ -1,6 +1,7 @@
 //! The clocked target in the caller's memory. The caller makes its transfers, on any bus.
 ghost use Rattle.std.specs.Prelude.{◌≡◌, ◌≢◌, ◌<◌, ◌≤◌, ◌==◌, true, false, IsTrue, IfSome, IsSome, MatchOption};
-ghost use Rattle.swd_port.specs.Bus.{Bus as BusType, bus_after, bus_of};
+ghost use Rattle.swd_port.specs.Bus.{Bus as BusType, bus_after};
+ghost use Rattle.swd_port.specs.PlainBus.{bus_of};
 ghost use Rattle.swd_port.specs.declared.access.Access.{Access as AccessType};
 ghost use Rattle.swd_clocked.specs.declared.clocked.Clocked.{Clocked as ClockedType};
 ghost use Rattle.swd_clocked.specs.Clocks.{clocked_device};

@@ -11,7 +11,8 @@ use Rattle.swd_trace.specs.declared.item.Item.TheVariants.{Reset, Switch, Idle, 
 use Rattle.swd_trace.specs.Listed.{IsLegalItem, AreLegalItems}
 use Rattle.swd_port.specs.Registers.{register_bit}
 use Rattle.std.proofs.lemmas.List.{take_more}
-use Rattle.swd_port.specs.Port.{Port, port_made}
+use Rattle.swd_port.specs.Port.{Port}
+use Rattle.swd_port.specs.Made.{port_made}
 use Rattle.swd_port.specs.Leading.{port_after_lead}
 use Rattle.swd_checker.specs.declared.identification.Identification.{Identification}
 use Rattle.swd_checker.specs.declared.near.Near.{Near}

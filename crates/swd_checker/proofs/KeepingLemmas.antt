@@ -10,7 +10,7 @@ use Rattle.swd_port.specs.declared.state.Reply.{Reply}
 use Rattle.swd_port.specs.declared.state.AfterAck.TheVariants.{Awaits}
 use Rattle.swd_port.specs.Port.{Port, Target, port_register}
 use Rattle.swd_port.specs.Choices.{Choice, port_flip_of}
-use Rattle.swd_port.specs.Phases.{port_flipped}
+use Rattle.swd_port.specs.Choices.{port_flipped}
 use Rattle.swd_port.specs.Asking.{port_reply, port_target_after, port_after_wait, port_after_fault}
 use Rattle.swd_port.specs.Completion.{PortCompletes, port_completion}
 use Rattle.swd_port.specs.Moving.{PortTakes, PortGives, PortPasses, port_arrival, port_arrival_of, port_after_bits}

@@ -7,7 +7,7 @@ use Rattle.std.proofs.lemmas.Nat.{xor_mod, xor_lt, mod_low}
 use Rattle.swd_bits.specs.Phases.{data_phase_number, data_phase_word}
 use Rattle.swd_bits.proofs.PhaseLemmas.{data_phase_gives_word, flipped_data_phase_no_word, bit_flip_changes_parity}
 use Rattle.swd_bits.proofs.PhaseLemmas.{data_phase_of_found_word}
-use Rattle.swd_port.specs.Phases.{port_flipped}
+use Rattle.swd_port.specs.Choices.{port_flipped}
 use Rattle.swd_checker.specs.Described.{checked_changed_at}
 use Rattle.swd_checker.specs.Checked.{checked_phase}
 

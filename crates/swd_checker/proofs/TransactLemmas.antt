@@ -13,7 +13,7 @@ use Rattle.swd_port.specs.declared.register.Register.TheVariants.{DpidrRead, Ctr
 use Rattle.swd_port.specs.declared.state.Reply.TheVariants.{Okay, Faults, Silent}
 use Rattle.swd_port.specs.declared.mark.Mark.{Mark}
 use Rattle.swd_port.specs.declared.mark.Mark.TheVariants.{Clean, Wait, Flip, Deaf, Mute}
-use Rattle.swd_port.specs.Phases.{port_flipped}
+use Rattle.swd_port.specs.Choices.{port_flipped}
 use Rattle.swd_port.specs.declared.state.AfterAck.{AfterAck}
 use Rattle.swd_port.specs.declared.state.AfterAck.TheVariants.{Awaits, Drives}
 use Rattle.swd_port.specs.Port.{Port, Target, port_selects_mem_ap, port_register_where}

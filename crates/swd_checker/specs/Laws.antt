@@ -2,7 +2,8 @@
 use Rattle.std.specs.Prelude.{ℕ, ◌≡◌, ◌≢◌, ◌⊎◌, Bool, true, false, None, is_some}
 use Rattle.swd_port.specs.declared.register.Register.{Register}
 use Rattle.swd_port.specs.Bus.{Bus}
-use Rattle.swd_port.specs.Port.{Port, Target, port_made}
+use Rattle.swd_port.specs.Port.{Port, Target}
+use Rattle.swd_port.specs.Made.{port_made}
 use Rattle.swd_port.specs.Leading.{PortLeads, port_line_awaits}
 use Rattle.swd_port.specs.Completion.{PortCompletes}
 use Rattle.swd_port.specs.Answers.{is_exempt_register}

@@ -10,7 +10,8 @@ use Rattle.swd_bits.specs.declared.tx.TxEnd.TheVariants.{Moved, NoAck}
 use Rattle.swd_trace.specs.declared.item.Item.{Item}
 use Rattle.swd_trace.specs.declared.item.Item.TheVariants.{Reset, Switch, Idle, Tx, Junk, Cut}
 use Rattle.swd_port.specs.Bus.{Bus}
-use Rattle.swd_port.specs.Port.{Port, port_made}
+use Rattle.swd_port.specs.Port.{Port}
+use Rattle.swd_port.specs.Made.{port_made}
 use Rattle.swd_port.specs.Registers.{register_bit}
 use Rattle.swd_port.specs.Leading.{PortLeads, port_line_awaits}
 use Rattle.swd_port.specs.Completion.{PortCompletes}

@@ -7,7 +7,7 @@ use Rattle.swd_bits.specs.Bits.{low_bits}
 use Rattle.swd_port.specs.Bus.{Bus}
 use Rattle.swd_port.specs.declared.register.Register.{Register}
 use Rattle.swd_port.specs.Port.{Target as State}
-use Rattle.swd_port.specs.Phases.{port_undriven}
+use Rattle.swd_port.specs.Choices.{port_undriven}
 use Rattle.swd_port.specs.Moving.{port_arrival_of}
 use Rattle.swd_bits.proofs.PhaseLemmas.{ones_data_phase_no_word}
 use Rattle.swd_target.specs.declared.target.Target.{Target}

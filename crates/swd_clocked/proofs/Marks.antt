@@ -15,7 +15,7 @@ use Rattle.swd_port.specs.declared.state.Reply.{Reply}
 use Rattle.swd_port.specs.declared.state.Reply.TheVariants.{Okay, Waits, Faults, Silent}
 use Rattle.swd_port.specs.declared.state.AfterAck.{AfterAck}
 use Rattle.swd_port.specs.Choices.{IsPortMark, port_flip_of}
-use Rattle.swd_port.specs.Phases.{port_flipped}
+use Rattle.swd_port.specs.Choices.{port_flipped}
 use Rattle.swd_port.specs.Answers.{port_seen_at}
 use Rattle.swd_target.specs.Marks.{is_legal_mark}
 use Rattle.swd_target.specs.declared.target.Target.{Target}

@@ -22,7 +22,7 @@ use Rattle.swd_port.specs.declared.state.AfterAck.TheVariants as lines
 use Rattle.swd_port.specs.declared.mark.Mark.TheVariants.{Clean, Wait as WaitMark}
 use Rattle.swd_port.specs.declared.state.Reset.TheVariants.{Fresh}
 use Rattle.swd_port.specs.Port.{Target as State}
-use Rattle.swd_port.specs.Phases.{port_undriven}
+use Rattle.swd_port.specs.Choices.{port_undriven}
 use Rattle.swd_target.specs.declared.target.Target.{Target}
 use Rattle.swd_target.specs.Requests.{TargetAnswers}
 use Rattle.swd_clocked.specs.declared.frame.Frame.{Frame}

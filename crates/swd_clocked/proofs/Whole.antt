@@ -17,7 +17,7 @@ use Rattle.swd_port.specs.declared.state.Reply.{Reply}
 use Rattle.swd_port.specs.declared.state.Reply.TheVariants.{Okay, Waits, Faults, Silent}
 use Rattle.swd_port.specs.declared.state.AfterAck.{AfterAck}
 use Rattle.swd_port.specs.Choices.{IsPortMark, is_port_deaf, is_port_wait, port_flip_of}
-use Rattle.swd_port.specs.Phases.{port_flipped}
+use Rattle.swd_port.specs.Choices.{port_flipped}
 use Rattle.swd_port.specs.Answers.{port_seen_at}
 use Rattle.swd_target.specs.Requests.{TargetAnswers}
 use Rattle.swd_target.specs.declared.plan.Plan.{Plan}

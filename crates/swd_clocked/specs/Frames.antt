@@ -12,7 +12,7 @@ use Rattle.swd_port.specs.declared.state.Reset.TheVariants.{Fresh}
 use Rattle.swd_port.specs.declared.state.AfterAck.{AfterAck}
 use Rattle.swd_port.specs.declared.state.AfterAck.TheVariants as lines
 use Rattle.swd_port.specs.Port.{Target as State}
-use Rattle.swd_port.specs.Phases.{port_undriven}
+use Rattle.swd_port.specs.Choices.{port_undriven}
 use Rattle.swd_port.specs.Answers.{is_port_okay}
 use Rattle.swd_port.specs.Moving.{port_bits_driven}
 use Rattle.swd_clocked.specs.declared.frame.Frame.{Frame}

@@ -4,7 +4,7 @@ use Rattle.swd_port.specs.declared.wire.Due.{Due}
 use Rattle.swd_port.specs.declared.wire.Due.TheVariants.{Nothing, Take, Give, Pass, Lost as DueLost}
 use Rattle.swd_port.specs.declared.state.AfterAck.{AfterAck}
 use Rattle.swd_port.specs.declared.state.AfterAck.TheVariants as lines
-use Rattle.swd_port.specs.Phases.{port_flipped, port_undriven}
+use Rattle.swd_port.specs.Choices.{port_flipped, port_undriven}
 use Rattle.swd_clocked.specs.declared.frame.Frame.{Frame}
 use Rattle.swd_clocked.specs.declared.frame.Frame.TheVariants.{Asks, Lost, Drives, Awaits, Passes}
 

@@ -1,7 +1,7 @@
 //! A simulated target, clock by clock.
-ghost use Rattle.swd_port.specs.Bus.{bus_of};
+ghost use Rattle.swd_port.specs.PlainBus.{bus_of};
 ghost use Rattle.std.specs.Prelude.{◌≡◌, ◌<◌, ◌^◌, ◌+◌, is_some, true, false};
-ghost use Rattle.swd_port.specs.Port.{port_made_target};
+ghost use Rattle.swd_port.specs.Made.{port_made_target};
 ghost use Rattle.swd_target.specs.Simulations.{simulation_made_with};
 ghost use Rattle.swd_clocked.specs.Frames.{frame_bits, frame_place, frame_limit, idle_frame, cycles_counted};
 ghost use Rattle.swd_clocked.specs.Frames.{contended_cycle, reply_cycle_bit, unswitched_frame};

@@ -1,8 +1,9 @@
 //! A simulated target, clock by clock, as a wire with a plan of fault injections.
-ghost use Rattle.swd_port.specs.Bus.{bus_of};
+ghost use Rattle.swd_port.specs.PlainBus.{bus_of};
 ghost use Rattle.std.specs.Prelude.{◌≡◌, ◌<◌, ◌^◌, true, IfOk, IfErr};
 ghost use Rattle.swd_port.specs.declared.wire.Due.TheVariants.{Nothing, Take, Give, Pass};
-ghost use Rattle.swd_port.specs.Port.{port_idle_link, port_made};
+ghost use Rattle.swd_port.specs.Port.{port_idle_link};
+ghost use Rattle.swd_port.specs.Made.{port_made};
 ghost use Rattle.swd_port.specs.Completion.{port_completed};
 ghost use Rattle.swd_port.specs.Asking.{PortAsks, port_tally_after};
 ghost use Rattle.swd_port.specs.Leading.{PortMayLead, MayRelease, PortLeadsNow};

@@ -1,6 +1,6 @@
 //! Laws of the clocked target and its bench. A function here does nothing: its contract is the law.
 ghost use Rattle.std.specs.Prelude.{◌≡◌, ◌≤◌};
-ghost use Rattle.swd_port.specs.Choices.{port_disturbed_among, port_lost_among};
+ghost use Rattle.swd_port.specs.MarkCounts.{port_disturbed_among, port_lost_among};
 ghost use Rattle.swd_clocked.specs.declared.clocked_bench.ClockedBench.{ClockedBench};
 ghost use Rattle.swd_clocked.specs.ClockedBenches.{clocked_bench_port, clocked_bench_plan, clocked_bench_marks};
 ghost use Rattle.swd_clocked.specs.ClockedBenches.{clocked_bench_contended};

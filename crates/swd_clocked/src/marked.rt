@@ -1,8 +1,8 @@
 //! A simulated target, clock by clock, with a plan of fault injections: a target and the wire to it.
-ghost use Rattle.swd_port.specs.Bus.{bus_of};
+ghost use Rattle.swd_port.specs.PlainBus.{bus_of};
 ghost use Rattle.std.specs.Prelude.{◌≡◌, ◌-◌, ◌+◌, ◌^◌, ◌<◌, is_some, unwrap_or, true, min, IfSome, IfNone};
 ghost use Rattle.swd_bits.specs.declared.request.Request.{Request};
-ghost use Rattle.swd_port.specs.Port.{port_made_target};
+ghost use Rattle.swd_port.specs.Made.{port_made_target};
 ghost use Rattle.swd_port.specs.declared.mark.Mark.TheVariants.{Clean};
 ghost use Rattle.swd_port.specs.Choices.{is_port_deaf, is_port_wait};
 ghost use Rattle.swd_target.specs.Marks.{IsLegalPlan, is_legal_mark};

@@ -1,6 +1,6 @@
 //! Whole phases at a clocked target with a plan, cycle by cycle, as a host drives them.
 ghost use Rattle.std.specs.Prelude.{◌≡◌, ◌≤◌, ◌<◌, ◌^◌, ◌-◌, ◌+◌, true, is_some, unwrap_or};
-ghost use Rattle.swd_port.specs.Phases.{port_undriven, port_flipped};
+ghost use Rattle.swd_port.specs.Choices.{port_undriven, port_flipped};
 ghost use Rattle.swd_port.specs.Choices.{port_flip_of};
 
 use crate::frame::Frame;

@@ -1,8 +1,8 @@
 //! The other end of a connection over the standard streams.
 ghost use Rattle.std.specs.Prelude.{◌≡◌, []};
 ghost use Rattle.std.specs.FinMap.{empty};
-ghost use Rattle.swd_port.specs.Bus.{bus_of};
-ghost use Rattle.swd_port.specs.Port.{port_made};
+ghost use Rattle.swd_port.specs.PlainBus.{bus_of};
+ghost use Rattle.swd_port.specs.Made.{port_made};
 
 use crate::probe::tell_probe;
 use crate::report::{FAULT, STOPPED, tell};

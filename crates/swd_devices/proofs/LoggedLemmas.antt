@@ -5,7 +5,7 @@ use Rattle.swd_port.specs.declared.access.Access.{Access}
 use Rattle.swd_port.specs.declared.access.Access.TheVariants.{Read, Write}
 use Rattle.swd_port.specs.Bus.{bus_after}
 use Rattle.swd_devices.specs.declared.core_target.CoreTarget.{CoreTarget}
-use Rattle.swd_port.specs.PlainMemory.{plain_after}
+use Rattle.swd_port.specs.PlainAnswers.{plain_after}
 use Rattle.swd_devices.specs.Cores.{core_after_read, core_after_write, core_asks_reset, core_is_address}
 use Rattle.swd_devices.specs.CoreTargets.{core_target_after, core_target_answer, core_target_reset}
 use Rattle.swd_devices.specs.LoggedCores.{LoggedCoreState, core_target_parts, logged_core_after, logged_core_answer}

@@ -3,8 +3,9 @@ use Rattle.std.specs.Prelude.{ℕ, ◌+◌, ◌%◌, ◌^◌, Option, Some, unwr
 use Rattle.std.specs.FinMap.{get}
 use Rattle.swd_port.specs.declared.access.Access.{Access}
 use Rattle.swd_port.specs.declared.access.Access.TheVariants.{Read, Write}
-use Rattle.swd_port.specs.PlainMemory.{PlainMemory, plain_after}
-use Rattle.swd_port.specs.Bus.{plain_result}
+use Rattle.swd_port.specs.PlainMemory.{PlainMemory}
+use Rattle.swd_port.specs.PlainAnswers.{plain_after}
+use Rattle.swd_port.specs.PlainBus.{plain_result}
 use Rattle.swd_devices.specs.declared.core_target.CoreTarget.{CoreTarget}
 use Rattle.swd_devices.specs.Cores.{core_after_read, core_after_reset, core_after_write, core_asks_reset}
 use Rattle.swd_devices.specs.Cores.{core_is_address, core_word}

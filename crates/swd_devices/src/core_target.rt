@@ -1,7 +1,7 @@
 //! A memory, and a core beside it.
 ghost use Rattle.std.specs.Prelude.{◌≡◌};
-ghost use Rattle.swd_port.specs.PlainMemory.{plain_after};
-ghost use Rattle.swd_port.specs.Bus.{plain_result};
+ghost use Rattle.swd_port.specs.PlainAnswers.{plain_after};
+ghost use Rattle.swd_port.specs.PlainBus.{plain_result};
 ghost use Rattle.swd_devices.specs.CoreTargets.{core_target_after, core_target_answer, core_target_reset};
 ghost use Rattle.swd_devices.specs.CoreTargets.{core_target_word};
 

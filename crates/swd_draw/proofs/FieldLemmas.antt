@@ -2,7 +2,8 @@
 use Rattle.std.proofs.Common.{◌≡◌, ℕ, Bool, true, false, List, [], ◌∷◌, ◌++◌, refl, sym, ap, ap₂, ◌∙◌, append_assoc}
 use Rattle.swd_bits.specs.Bits.{low_bits, bits_number}
 use Rattle.swd_bits.specs.BitLists.{tx_bits_of}
-use Rattle.swd_bits.specs.Wire.{bits_of_ack, bits_of_request}
+use Rattle.swd_bits.specs.Wire.{bits_of_request}
+use Rattle.swd_bits.specs.Acks.{bits_of_ack}
 use Rattle.swd_bits.specs.Transactions.{tx_ack_bits, phase_with, tx_spelling_bits, tx_tail_bits}
 use Rattle.swd_bits.specs.declared.ack.Ack.TheVariants.{Ok as AckOk, Wait as AckWait, Fault as AckFault}
 use Rattle.swd_bits.specs.declared.request.Reg4.{Reg4}

@@ -3,7 +3,8 @@ use Rattle.std.specs.Prelude.{ℕ, zero, suc, ◌^◌, ◌%◌, Bool, true, fals
 use Rattle.std.specs.Prelude.{if◌then◌else◌}
 use Rattle.swd_bits.specs.Bits.{low_bits, bits_number, odd}
 use Rattle.swd_bits.specs.BitLists.{tx_bits_of}
-use Rattle.swd_bits.specs.Wire.{addr_bits, bits_of_ack}
+use Rattle.swd_bits.specs.Wire.{addr_bits}
+use Rattle.swd_bits.specs.Acks.{bits_of_ack}
 use Rattle.swd_bits.specs.declared.ack.Ack.TheVariants.{Ok as AckOk, Wait as AckWait, Fault as AckFault}
 use Rattle.swd_bits.specs.declared.request.Request.{Request}
 use Rattle.swd_bits.specs.declared.tx.Tx.{Tx as Transaction}

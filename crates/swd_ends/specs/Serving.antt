@@ -2,7 +2,7 @@
 use Rattle.std.specs.Prelude.{ℕ, ◌≡◌, List, [], ◌∷◌, Option, None, true, false}
 use Rattle.swd_port.specs.declared.mark.Mark.{Mark}
 use Rattle.swd_port.specs.Bus.{Bus}
-use Rattle.swd_port.specs.Port.{port_made_target}
+use Rattle.swd_port.specs.Made.{port_made_target}
 use Rattle.swd_clocked.specs.declared.marked.FaultyClocked.{FaultyClocked}
 use Rattle.swd_clocked.specs.Frames.{idle_frame}
 use Rattle.swd_clocked.specs.Marked.{marked_clocked_state, marked_clocked_simulation, marked_clocked_frame}

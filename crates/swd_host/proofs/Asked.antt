@@ -8,7 +8,7 @@ use Rattle.swd_host.proofs.Words.{EngineHand, EngineBase, EngineBefore, EngineDu
 use Rattle.swd_host.proofs.Words.{port_select_zero, OpeningAskedPower, OpeningReadsPower, EngineMemoryWithin}
 use Rattle.swd_host.proofs.Words.{EngineReadsStatus, EngineReadsFlags, EngineReads, EngineWrites, whole, changed}
 use Rattle.swd_bits.specs.declared.request.Reg4.TheVariants.{R0, R4}
-use Rattle.swd_port.specs.Phases.{port_flipped}
+use Rattle.swd_port.specs.Choices.{port_flipped}
 use Rattle.swd_port.specs.Choices.{Choice}
 use Rattle.swd_port.specs.declared.state.AfterAck.TheVariants.{Drives, Awaits}
 use Rattle.swd_port.specs.Laws.WordsRead.{CtrlStatShows}

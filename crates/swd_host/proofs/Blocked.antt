@@ -1,7 +1,7 @@
 -- The checks of a block of reads: which block is valid, and why one is refused. For `run_block`.
 use Rattle.swd_host.proofs.Words.{◌≡◌, ◌≢◌, ◌+◌, ◌*◌, ◌%◌, ◌^◌, ◌<◌, ◌≤◌, ◌==◌, ℕ, zero, suc, false, arith, length}
 use Rattle.swd_host.proofs.Words.{AreHostAccesses}
-use Rattle.swd_port.specs.PlainMemory.{plain_reads}
+use Rattle.swd_port.specs.PlainAnswers.{plain_reads}
 use Rattle.swd_port.proofs.ReadLists.{plain_reads_length}
 use Rattle.swd_host.specs.declared.outcome.Refused.TheVariants.{TooMany, Unaligned}
 use Rattle.swd_host.specs.Reports.{HostRefusesList}

@@ -3,7 +3,7 @@
 use Rattle.swd_host.proofs.Words.{◌≡◌, ◌+◌, ◌-◌, ◌<◌, ◌≤◌, ℕ, refl, sym, ap, subst, arith, ◌∙◌, List, [], ◌∷◌, ◌++◌}
 use Rattle.swd_host.proofs.Words.{length, take, drop, zero, suc, length-append, ◌==◌, Bool, true, false, max, ◌≢◌}
 use Rattle.swd_host.proofs.Words.{Access, Bus, Port, MayBecome, End, All, Lost, HostEndsAt, HostKnowsTarget}
-use Rattle.swd_host.proofs.Words.{IsAtRest, HostReport, Fits, FitsAt, memory_after, resume_repeats_of}
+use Rattle.swd_host.proofs.Words.{IsAtRest, HostReport, Fits, FitsFromAt, memory_after, resume_repeats_of}
 use Rattle.swd_host.proofs.Words.{ResumePlacesBelow, Again, LogHasRoomForResume, Bursts, bursts_limit}
 use Rattle.std.proofs.lemmas.Bool.{eqb-true}
 use Rattle.std.proofs.lemmas.List.{append_assoc}
@@ -152,7 +152,8 @@ module _ (limit : ℕ) (list : List Access) (m : Bus) (calls : List HostReport) 
     (before now : Bus) (places : List ℕ) (was : Reaches limit list m calls earlier before places) (own : ℕ)
     (kept : told.answers ≡ earlier.answers ++ resume_added earlier told)
     (begun : told.begun ≡ resume_begun earlier told own)
-    (k : ℕ) (fit : FitsAt 1 k (drop (length earlier.answers) list) before (resume_own_report earlier told own) now)
+    (k : ℕ)
+    (fit : FitsFromAt 9 1 k (drop (length earlier.answers) list) before (resume_own_report earlier told own) now)
   where
     abbrev at : ℕ
     at = length earlier.answers

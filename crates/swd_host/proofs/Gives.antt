@@ -10,7 +10,7 @@ use Rattle.swd_host.proofs.Words.{task_drw_place, EngineHand, EngineHasTar, Task
 use Rattle.swd_host.proofs.Words.{EngineWriteDamaged, EngineOwesFlags, EngineChecksFlags, cleared, kept, EngineBefore}
 use Rattle.swd_host.proofs.Words.{EngineDuring, TaskTransferPhase, EngineWrites, whole, changed, IsTask}
 use Rattle.swd_bits.specs.Wire.{phase}
-use Rattle.swd_bits.specs.Phases.{IsDataPhaseOf}
+use Rattle.swd_bits.specs.Wire.{IsDataPhaseOf}
 use Rattle.swd_port.specs.Moves.{PortWriteGiven, whole as given_whole, damaged as given_damaged}
 use Rattle.swd_bits.proofs.PhaseLemmas.{data_phase_number_bits}
 use Rattle.swd_port.proofs.MovingLaws.{port_data_given_exact, port_data_given_at_rest}

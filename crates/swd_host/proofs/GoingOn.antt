@@ -2,7 +2,7 @@
 use Rattle.swd_host.proofs.Words.{◌≡◌, ◌≢◌, ◌+◌, ◌<◌, ◌≤◌, ℕ, refl, sym, ap, subst, inl, inr, arith, ◌∙◌, List, [], ◌∷◌}
 use Rattle.swd_host.proofs.Words.{◌++◌, length, take, zero, suc, get_or, length-append, ◌⊎◌, drop, Access, Answer}
 use Rattle.swd_host.proofs.Words.{Bus, bus_answer, bus_after, All, memory_after, answers_of, HostReport}
-use Rattle.swd_host.proofs.Words.{Fits, FitsAt, IsAfterResumeRepeats, ResumePlacesBelow, Again, LogHasRoomForResume}
+use Rattle.swd_host.proofs.Words.{Fits, FitsFromAt, IsAfterResumeRepeats, ResumePlacesBelow, Again, LogHasRoomForResume}
 use Rattle.swd_host.proofs.Words.{resume_report, max, End, Lost, ◌-◌, false}
 use Rattle.swd_host.specs.declared.outcome.End.TheVariants.{TriesOut, WrongId, Confused}
 use Rattle.std.proofs.lemmas.List.{append-nil, append_assoc, get_or-drop, length-take-le, nil_from_length, take_all}
@@ -228,7 +228,7 @@ pub record ResumedReport (js : List ℕ) (list : List Access) (m : Bus) (earlier
 module _ (js : List ℕ) (k kk j : ℕ) (list : List Access) (m x now : Bus) (earlier raw : HostReport)
     (part : List Answer) (d : Access) (added : raw.answers ≡ earlier.answers ++ part)
     (a : AgainAt k js list m earlier x) (room : LogHasRoomForResume js list m)
-    (fit : FitsAt 1 kk (drop k list) x (record raw { answers = part }) now) (less : j ≤ raw.begun)
+    (fit : FitsFromAt 9 1 kk (drop k list) x (record raw { answers = part }) now) (less : j ≤ raw.begun)
     (left : now ≡ memory_after (take (kk + j) (drop k list)) x) where
   long : length (drop k list) + k ≡ length list
   long = resumed_rest_length k list a.reported

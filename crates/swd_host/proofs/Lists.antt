@@ -6,7 +6,8 @@ use Rattle.swd_host.proofs.Words.{HostNextAccess, BurstContinuesAt}
 use Rattle.std.specs.Prelude.{IfSome}
 use Rattle.std.proofs.lemmas.Grind.{take_at_read}
 use Rattle.std.proofs.lemmas.Bool.{eqb-true}
-use Rattle.swd_host.specs.Plain.{host_access_is_aligned, HostAccessHasRanges}
+use Rattle.swd_host.specs.Plain.{host_access_is_aligned}
+use Rattle.swd_host.specs.Accepting.{HostAccessHasRanges}
 
 -- WHAT THEY LEAVE, AND WHAT THEY ARE ANSWERED
 pub host_list_memory_append : (xs ys : List Access) (m : Bus)

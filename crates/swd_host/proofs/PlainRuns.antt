@@ -1,8 +1,10 @@
 -- The theorem of a run where the bus is a plain memory. For the law `plain_runs`.
 use Rattle.swd_host.proofs.Words.{◌≡◌, ◌+◌, refl, sym, ap, ◌∙◌, List, [], ◌∷◌, take, Access, memory_after}
 use Rattle.swd_host.proofs.Words.{answers_of, bursts_limit}
-use Rattle.swd_port.specs.PlainMemory.{PlainMemory, plain_answer, plain_after}
-use Rattle.swd_port.specs.Bus.{bus_of, plain_of, plain_after_all, bus_after}
+use Rattle.swd_port.specs.PlainMemory.{PlainMemory}
+use Rattle.swd_port.specs.PlainAnswers.{plain_answer, plain_after}
+use Rattle.swd_port.specs.Bus.{bus_after}
+use Rattle.swd_port.specs.PlainBus.{bus_of, plain_of, plain_after_all}
 use Rattle.swd_port.proofs.PlainLaws.{bus_of_after, bus_of_answer}
 use Rattle.swd_host.specs.PlainRuns.{plain_answers_to, FitsOverPlain, RunsOverPlain}
 

@@ -6,8 +6,9 @@ use Rattle.std.proofs.lemmas.Bool.{lt-ltb}
 use Rattle.std.specs.Ordering.{nat_cmp}
 use Rattle.std.specs.FinMap.{FinMap, get, contains_key}
 use Rattle.swd_port.specs.declared.access.Access.TheVariants.{Read, Write}
-use Rattle.swd_port.specs.PlainMemory.{PlainMemory, plain_done_answer, plain_answer, plain_after, succeeds_at}
-use Rattle.swd_port.specs.PlainMemory.{plain_words_after, plain_transfer_of, plain_done}
+use Rattle.swd_port.specs.PlainMemory.{PlainMemory}
+use Rattle.swd_port.specs.PlainAnswers.{plain_done_answer, plain_answer, plain_after, succeeds_at}
+use Rattle.swd_port.specs.PlainAnswers.{plain_words_after, plain_transfer_of, plain_done}
 use Rattle.swd_port.proofs.MapLemmas.{port_map_get_same, port_map_insert_twice}
 use Rattle.swd_port.proofs.PlainLaws.{plain_after_success, plain_after_bus_error}
 

@@ -2,11 +2,11 @@
 -- plain memory's. For the law `resumptions`.
 use Rattle.swd_host.proofs.Words.{◌≡◌, ◌+◌, ◌-◌, ◌<◌, ◌≤◌, ℕ, refl, sym, ap, subst, arith, ◌∙◌, List, []}
 use Rattle.swd_host.proofs.Words.{◌∷◌, ◌++◌, length, take, drop, zero, suc, get_or, length-append, Access, Bus}
-use Rattle.swd_host.proofs.Words.{HostReport, Fits, FitsAt, bus_after, bus_answer, memory_after, answers_of}
+use Rattle.swd_host.proofs.Words.{HostReport, Fits, FitsFromAt, bus_after, bus_answer, memory_after, answers_of}
 use Rattle.std.proofs.lemmas.List.{length-take}
 use Rattle.std.proofs.Math.Seq.{drop-cons, take-add}
 use Rattle.swd_port.specs.declared.access.Access.TheVariants.{Read, Write}
-use Rattle.swd_port.specs.Bus.{plain_of}
+use Rattle.swd_port.specs.PlainBus.{plain_of}
 use Rattle.swd_host.specs.Again.{resume_own_report, resume_added}
 use Rattle.swd_host.specs.Chains.{ResumeChain, first, again, AreBlockReads, ResumeChainReads}
 use Rattle.swd_host.proofs.Lists.{host_list_memory_append, host_list_answers_append, host_list_memory_next}
@@ -169,7 +169,7 @@ again_plainly : (limit : ℕ) (list : List Access) (m : Bus) (calls : List HostR
     (before now : Bus) (own k : ℕ) → 1 ≤ limit → AreBlockReads list → Plainly limit list m calls earlier before
     → IsPlainWithRoom (limit + length calls) list m
     → told.answers ≡ earlier.answers ++ resume_added earlier told
-    → FitsAt 1 k (drop (length earlier.answers) list) before (resume_own_report earlier told own) now
+    → FitsFromAt 9 1 k (drop (length earlier.answers) list) before (resume_own_report earlier told own) now
     → Plainly limit list m (calls ++ earlier ∷ []) told now
 again_plainly limit list m calls earlier told before now own k some reads was room kept fit =
     let at : ℕ = length earlier.answers in

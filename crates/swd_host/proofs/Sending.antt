@@ -1,13 +1,13 @@
 -- What the engine knows of the calls so far: each call keeps it.
 use Rattle.swd_host.proofs.Words.{◌≡◌, ◌+◌, ◌≤◌, ◌==◌, ◌++◌, ◌∷◌, [], ℕ, Bool, true, false, refl, sym, ap, subst, inl}
-use Rattle.swd_host.proofs.Words.{inr, arith, ◌∙◌, ◌⊎◌, List, length, Option, Some, None, if◌then◌else◌}
+use Rattle.swd_host.proofs.Words.{inr, arith, ◌∙◌, List, length, Option, Some, None, if◌then◌else◌}
 use Rattle.swd_host.proofs.Words.{data_phase_word, data_phase_number, Answered, Stopped, Task, Job, Ask, Data, Waited}
 use Rattle.swd_host.proofs.Words.{State, Doing, Resting, Ahead, Unsent, NextSent, NextFailed, HostStep, Flags, Lost, At}
 use Rattle.swd_host.proofs.Words.{Check, Clear, LastStatus, Resend, Status, WriteTar, Behind, Confirm, Transfer}
 use Rattle.swd_host.proofs.Words.{engine_word_for, engine_job_starts, engine_is_ahead_at}
 use Rattle.swd_host.proofs.Words.{engine_job_is_of, host_flags_in, engine_state_after_ack, not, task_is_read}
 use Rattle.swd_host.proofs.Words.{task_is_block, access_of_task, Access, Answer, Request, ◌&&◌, ◌||◌, Engine}
-use Rattle.swd_host.proofs.Words.{engine_state_is_of, Bursts}
+use Rattle.swd_host.proofs.Words.{Bursts}
 use Rattle.std.proofs.Math.Bool.{and-false}
 use Rattle.swd_port.specs.declared.access.Access.TheVariants.{Read, Write}
 use Rattle.swd_port.specs.declared.access.Answer.TheVariants.{Written, Value, BusFault}
@@ -20,12 +20,10 @@ use Rattle.swd_port.specs.declared.register.Register.TheVariants.{ResendRead}
 use Rattle.swd_port.specs.Registers.{ctrl_stat_holds}
 use Rattle.swd_host.specs.declared.engine.Phase.TheVariants.{Faulted}
 use Rattle.swd_host.specs.declared.task.Task.TheVariants.{Read as TaskRead, BurstRead, Write as TaskWrite, BurstWrite}
-use Rattle.swd_host.specs.declared.engine.Phase.{Phase}
 use Rattle.swd_host.specs.declared.task.Bursts.TheVariants.{Never}
-use Rattle.swd_host.specs.Engines.{engine_cue_at, engine_data_cue}
 use Rattle.swd_host.specs.Requests.{engine_register_for, engine_request_for, engine_repeat_place}
 use Rattle.swd_host.specs.Turns.{engine_begun_left}
-use Rattle.swd_host.specs.Sent.{HostSent, HostSince, HostListHasAccess, IsHostDataPhase, HostSawNoRefusal}
+use Rattle.swd_host.specs.Sent.{HostSent, HostSince, HostListHasAccess, IsHostDataPhase, HostAwaitsNone}
 use Rattle.swd_host.specs.Sent.{host_asks_drw, host_asks_result, host_awaits_drw, host_register_gives_word}
 use Rattle.swd_host.specs.Sent.{is_host_confirmation, host_okay, host_since_refused, other, sends, confirms, flagged}
 use Rattle.swd_host.specs.Sent.{written, value, fault, Quiet, Failed as Fails}
@@ -289,7 +287,7 @@ module _ (list : List Access) (answers : List Answer) where
   -- the data of the access in hand passed
   sent_here : (most : ℕ) (task : Task) (earlier : List Call) (call asked : Call) → IsTaskInList list answers task
       → 1 ≤ most → IsHostDataPhase (access_of_task task) asked call
-      → EngineStood list answers most (λ s c f. (s ≤ 1) × (c ≡ 0) × HostSawNoRefusal s f) (asked ∷ earlier)
+      → EngineStood list answers most (λ s c f. (s ≤ 1) × (c ≡ 0) × HostAwaitsNone s f) (asked ∷ earlier)
       → EngineStood list answers most (λ s c f. (s ≡ 1) × (c ≡ 0) × (f ≡ Quiet)) (call ∷ asked ∷ earlier)
   sent_here most task earlier call asked here some its h = record {
     sent = 1;
@@ -597,7 +595,7 @@ module _ (list : List Access) (answers : List Answer) where
   -- the DRW request of the access was sent at most once, and FAULT came for its data
   refused_once : (task : Task) (damaged : Bool) (s c : ℕ) (f : HostSince)
       → engine_stage (Check Confirm (record { error = false; damaged = damaged })) task s c f
-      → (s ≤ 1) × (c ≡ 0) × HostSawNoRefusal s f
+      → (s ≤ 1) × (c ≡ 0) × HostAwaitsNone s f
   refused_once task damaged s c f i = (omega (arith, i.0), i.1, engine_refused_settled s f i.2.refused)
 
   -- the flags after ABORT: whether they are clear, and whether a bus error was owed
@@ -663,11 +661,11 @@ module _ (list : List Access) (answers : List Answer) where
   -- at the other places of an access
   checked_early : (p : HostStep) (task : Task) (aims : Bool) (b v : ℕ) (left owes : Bool) (ahead : Ahead)
       (earlier : List Call) (x : State) (y z : HostStep)
-      → (stands : EngineStood list answers b (λ s c f. (s ≤ 1) × (c ≡ 0) × HostSawNoRefusal s f)
-      (host_okay CtrlStatRead ∷ earlier)) → ((s c : ℕ) (f : HostSince) → (s ≤ 1) × (c ≡ 0) × HostSawNoRefusal s f
+      → (stands : EngineStood list answers b (λ s c f. (s ≤ 1) × (c ≡ 0) × HostAwaitsNone s f)
+      (host_okay CtrlStatRead ∷ earlier)) → ((s c : ℕ) (f : HostSince) → (s ≤ 1) × (c ≡ 0) × HostAwaitsNone s f
       → engine_stage (At y) task s c f)
-      → ((s c : ℕ) (f : HostSince) → (s ≤ 1) × (c ≡ 0) × HostSawNoRefusal s f → engine_stage (At z) task s c f)
-      → ((s c : ℕ) (f : HostSince) → (s ≤ 1) × (c ≡ 0) × HostSawNoRefusal s f
+      → ((s c : ℕ) (f : HostSince) → (s ≤ 1) × (c ≡ 0) × HostAwaitsNone s f → engine_stage (At z) task s c f)
+      → ((s c : ℕ) (f : HostSince) → (s ≤ 1) × (c ≡ 0) × HostAwaitsNone s f
       → engine_stage (Clear p (record { error = owes; damaged = true })) task s c f)
       → EngineGoesTo (if left then Doing (Clear p (record { error = owes; damaged = true })) Ask else
       if owes then Doing (At y) Ask else Doing (At z) Ask) x
@@ -785,21 +783,3 @@ module _ (list : List Access) (answers : List Answer) where
   knows_as f task b calls i j h =
       subst (λ t. EngineKnowsAt list answers f.state t f.begun f.ahead calls) (sym i)
       (subst (λ n. EngineKnowsAt list answers f.state task n f.ahead calls) (sym j) h)
-
-  -- the job of a state of an access is one of an access
-  pub state_job : (x : State) (job : Job) (phase : Phase) → x ≡ Doing job phase → engine_state_is_of false x ≡ true
-      → engine_job_is_of false job ≡ true
-  state_job x job phase at on = sym (ap (engine_state_is_of false) at) ∙ on
-
-  -- a turnaround is due
-  pub passing : (x : State) (stray : Bool) (task : Task) → engine_cue_at x stray task ≡ Some Pass
-      → ((job : Job) × (x ≡ Doing job Waited)) ⊎ ((job : Job) × (x ≡ Doing job Faulted))
-  passing (Doing job Waited) stray task e = inl (job, refl)
-  passing (Doing job Faulted) stray task e = inr (job, refl)
-  passing (Doing job Data) stray task e = absurd (apart (engine_is_ahead_at job Data task) (engine_word_for job task) e)
-    where
-      apart : (ahead : Bool) (word : Option ℕ) → engine_data_cue ahead word ≡ Some Pass → ⊥
-      apart true word e = cc
-      apart false (Some word) e = cc
-      apart false None e = cc
-  passing x stray task e = absurd (cc)

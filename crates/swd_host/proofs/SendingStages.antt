@@ -6,7 +6,7 @@ use Rattle.swd_port.specs.declared.access.Access.TheVariants.{Read}
 use Rattle.swd_port.specs.declared.cue.Cue.{Cue}
 use Rattle.swd_port.specs.Stories.{is_port_ask}
 use Rattle.swd_port.specs.declared.cue.Cue.TheVariants.{Lead, Ask as CueAsk, Take, Give, Pass}
-use Rattle.swd_host.specs.Sent.{HostSince, HostListHasAccess, HostSawNoRefusal, host_asks_result, host_since_refused}
+use Rattle.swd_host.specs.Sent.{HostSince, HostListHasAccess, HostAwaitsNone, host_asks_result, host_since_refused}
 use Rattle.swd_host.specs.Sent.{Quiet, Refused, Failed as Fails}
 use Rattle.swd_host.specs.Stages.{engine_stage, engine_fault_stage, HostSawRefusal}
 use Rattle.swd_host.specs.Steps.{engine_is_stopped, EngineGoesTo}
@@ -41,19 +41,19 @@ engine_stage_refused Refused = tt
 engine_stage_refused Fails = tt
 
 -- a FAULT more leaves no access that waits for its confirmation
-pub engine_fault_settled : (s : ℕ) (f : HostSince) → HostSawNoRefusal s (host_since_refused f)
+pub engine_fault_settled : (s : ℕ) (f : HostSince) → HostAwaitsNone s (host_since_refused f)
 engine_fault_settled s Quiet = tt
 engine_fault_settled s Refused = tt
 engine_fault_settled s Fails = tt
 
 -- nor does one that was seen
-pub engine_refused_settled : (s : ℕ) (f : HostSince) → HostSawRefusal f → HostSawNoRefusal s f
+pub engine_refused_settled : (s : ℕ) (f : HostSince) → HostSawRefusal f → HostAwaitsNone s f
 engine_refused_settled s Quiet h = absurd h
 engine_refused_settled s Refused h = tt
 engine_refused_settled s Fails h = tt
 
 -- where no data passed, no access waits for its confirmation
-pub engine_none_settled : (s : ℕ) (f : HostSince) → s ≡ 0 → HostSawNoRefusal s f
+pub engine_none_settled : (s : ℕ) (f : HostSince) → s ≡ 0 → HostAwaitsNone s f
 engine_none_settled s Quiet h = h
 engine_none_settled s Refused h = tt
 engine_none_settled s Fails h = tt

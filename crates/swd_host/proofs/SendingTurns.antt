@@ -7,7 +7,8 @@ use Rattle.swd_host.proofs.Words.{engine_job_is_of, engine_state_is_of, engine_s
 use Rattle.swd_host.proofs.Words.{is_burst_write, access_of_task, Access, Answer, engine_outcome_at, engine_first_state}
 use Rattle.swd_host.proofs.Words.{engine_ahead_failed, engine_count_more, engine_cue, continues_burst, task_for}
 use Rattle.swd_host.proofs.Words.{task_drw_register, engine_request_for, EngineStarts, EngineSeesAck, ◌&&◌, Bursts, End}
-use Rattle.swd_host.proofs.Words.{EngineIsNew, engine_stops_at_all, Stopped}
+use Rattle.swd_host.proofs.Words.{EngineIsNew, engine_stops_at_all, Stopped, ◌⊎◌, None, Waited, engine_is_ahead_at}
+use Rattle.swd_host.proofs.Words.{engine_word_for}
 use Rattle.swd_port.specs.declared.access.Answer.TheVariants.{Written}
 use Rattle.swd_port.specs.declared.call.Call.{Call}
 use Rattle.swd_port.specs.declared.cue.Cue.{Cue}
@@ -16,7 +17,8 @@ use Rattle.swd_port.specs.declared.register.Register.TheVariants.{DrwWrite}
 use Rattle.swd_port.specs.Stories.{is_port_ask}
 use Rattle.swd_host.specs.declared.engine.Phase.TheVariants.{Faulted}
 use Rattle.swd_host.specs.declared.task.Task.TheVariants.{BurstWrite}
-use Rattle.swd_host.specs.Engines.{engine_cue_at}
+use Rattle.swd_host.specs.declared.engine.Phase.{Phase}
+use Rattle.swd_host.specs.Engines.{engine_cue_at, engine_data_cue}
 use Rattle.swd_host.specs.Calls.{EngineTurns}
 use Rattle.swd_host.specs.Replies.{EngineTookReply}
 use Rattle.swd_host.specs.Sent.{HostSent, HostSince, Quiet, Failed as Fails, host_asks_drw, host_awaits_drw, host_okay}
@@ -34,8 +36,26 @@ use Rattle.swd_host.proofs.Turned.{engine_lands_by, engine_turn_works}
 use Rattle.swd_host.proofs.Starts.{engine_ahead_burst, engine_ahead_write, block_task_is_burst}
 use Rattle.swd_host.proofs.SendingStages.{IsTaskInList, engine_none_settled}
 use Rattle.swd_host.proofs.Sending.{ask_knows, waited_knows, faulted_knows, given_knows, taken_knows, knows_as}
-use Rattle.swd_host.proofs.Sending.{state_job, passing, sent_as}
+use Rattle.swd_host.proofs.Sending.{sent_as}
 use Rattle.swd_host.proofs.SendingWords.{opening_turns_make, engine_turns_never}
+
+-- the job of a state of an access is one of an access
+state_job : (x : State) (job : Job) (phase : Phase) → x ≡ Doing job phase → engine_state_is_of false x ≡ true
+    → engine_job_is_of false job ≡ true
+state_job x job phase at on = sym (ap (engine_state_is_of false) at) ∙ on
+
+-- a turnaround is due
+passing : (x : State) (stray : Bool) (task : Task) → engine_cue_at x stray task ≡ Some Pass
+    → ((job : Job) × (x ≡ Doing job Waited)) ⊎ ((job : Job) × (x ≡ Doing job Faulted))
+passing (Doing job Waited) stray task e = inl (job, refl)
+passing (Doing job Faulted) stray task e = inr (job, refl)
+passing (Doing job Data) stray task e = absurd (apart (engine_is_ahead_at job Data task) (engine_word_for job task) e)
+  where
+    apart : (ahead : Bool) (word : Option ℕ) → engine_data_cue ahead word ≡ Some Pass → ⊥
+    apart true word e = cc
+    apart false (Some word) e = cc
+    apart false None e = cc
+passing x stray task e = absurd (cc)
 
 module _ (list : List Access) (answers : List Answer) where
   turned_by : (e f : Engine) (cue : Cue) (seen : ℕ) (calls : List Call) → engine_state_is_of false e.state ≡ true
@@ -60,7 +80,7 @@ module _ (list : List Access) (answers : List Answer) where
   turned_by e f Take seen calls on here h asks took =
       let p : IsEngineTaking e.state e.task = engine_at_take e.state e.stray e.task asks in
       let job : engine_job e.state ≡ p.job = ap engine_job p.at in
-      let own : engine_job_is_of false p.job ≡ true = state_job list answers e.state p.job Data p.at on in
+      let own : engine_job_is_of false p.job ≡ true = state_job e.state p.job Data p.at on in
       knows_as list answers f e.task _ _ took.lands.task took.lands.begun
       (taken_knows list answers p.job e.task e.aims e.bursts e.begun seen f.ahead calls f.state here own p.reads
       p.ahead_not
@@ -74,18 +94,18 @@ module _ (list : List Access) (answers : List Answer) where
       (subst (λ b. EngineKnowsAt list answers f.state e.task (engine_begun_left f.state e.task e.begun) f.ahead
       (record { cue = Give b; seen = seen } ∷ calls)) (sym p.sends)
       (given_knows list answers p.job e.task e.begun p.gives seen f.ahead calls f.state here
-      (state_job list answers e.state p.job Data p.at on) p.is
+      (state_job e.state p.job Data p.at on) p.is
       (subst (λ x. EngineGoesTo (engine_after_cue x e.task) f.state) p.at did.goes)
       (subst (λ x. EngineKnowsAt list answers x e.task e.begun e.ahead calls) p.at h)))
   turned_by e f Pass seen calls on here h asks did =
-      elim (passing list answers e.state e.stray e.task asks) [
+      elim (passing e.state e.stray e.task asks) [
         | inl at ↦ knows_as list answers f e.task _ _ did.lands.task did.lands.begun
             (waited_knows list answers at.0 e.task e.begun seen f.ahead f.ahead calls f.state
             (subst (λ x. EngineGoesTo (engine_after_cue x e.task) f.state) at.1 did.goes) (λ rests. refl)
             (subst (λ x. EngineKnowsAt list answers x e.task e.begun e.ahead calls) at.1 h))
         | inr at ↦ knows_as list answers f e.task _ _ did.lands.task did.lands.begun
             (faulted_knows list answers at.0 e.task e.begun seen f.ahead f.ahead calls f.state
-            (state_job list answers e.state at.0 Faulted at.1 on)
+            (state_job e.state at.0 Faulted at.1 on)
             (subst (λ x. EngineGoesTo (engine_after_cue x e.task) f.state) at.1 did.goes) (λ rests. refl)
             (subst (λ x. EngineKnowsAt list answers x e.task e.begun e.ahead calls) at.1 h))
       ]

@@ -4,7 +4,7 @@ use Rattle.swd_host.proofs.Words.{◌≡◌, ◌%◌, ℕ, refl, sym, ap, subst,
 use Rattle.swd_host.proofs.Words.{Answer, Bus, Port, All, memory_after, answers_of, HostReport, FitsFromAt}
 use Rattle.swd_host.proofs.Words.{HostEndsAt, HostIsOpen, IsAtRest, RunFits, RunFitsFrom}
 use Rattle.std.proofs.lemmas.List.{take_all}
-use Rattle.swd_port.specs.Port.{port_made}
+use Rattle.swd_port.specs.Made.{port_made}
 use Rattle.swd_host.specs.Sessions.{HostSession, none, then, HostSessionIsAsOne, HostLists, none_yet, and_then}
 use Rattle.swd_host.specs.Sessions.{HostListsAreAsOne}
 use Rattle.swd_host.proofs.Lists.{host_list_memory_append, host_list_answers_append}

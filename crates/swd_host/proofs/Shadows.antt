@@ -6,8 +6,8 @@ use Rattle.swd_host.proofs.Words.{nat_lt, if◌then◌else◌, ◌==◌, Access,
 use Rattle.swd_host.proofs.Words.{bus_after, memory_after, All, HostReport, resume_repeats_of}
 use Rattle.swd_host.proofs.Words.{list_with_resume_repeats, IsAfterResumeRepeats, Again, LogHasRoomForResume}
 use Rattle.std.proofs.lemmas.List.{take_all}
-use Rattle.swd_port.specs.PlainMemory.{plain_after, succeeds_at}
-use Rattle.swd_port.specs.Bus.{plain_of}
+use Rattle.swd_port.specs.PlainAnswers.{plain_after, succeeds_at}
+use Rattle.swd_port.specs.PlainBus.{plain_of}
 use Rattle.swd_port.specs.PlainBus.{IsPlain, plain_words_of, plain_logged}
 use Rattle.swd_port.proofs.PlainBusLaws.{plain_of_next, is_plain_next, plain_answers}
 use Rattle.swd_host.proofs.PlainShadows.{PlainShadow, PlainHasRoom, PlainTwice, plain_shadow_answer, plain_shadow_next}

@@ -26,9 +26,10 @@ pub use Rattle.swd_host.specs.Plain.{answers_of, AreHostAccesses, IsHostAccess, 
 pub use Rattle.swd_host.specs.Progress.{engine_calls_left, engine_job_is_of, engine_state_is_of, engine_least_for}
 pub use Rattle.swd_host.specs.Progress.{engine_least_in, engine_left_at_place, engine_left_for, engine_left_in}
 pub use Rattle.swd_host.specs.Progress.{engine_open_requests, engine_stray_left}
-pub use Rattle.swd_host.specs.Reports.{Closes, HostEndsAt, Fits, FitsAt, FitsFrom, FitsFromAt, IsAtRest}
+pub use Rattle.swd_host.specs.Reports.{Closes, HostEndsAt, Fits, FitsFrom, FitsFromAt, IsAtRest}
 pub use Rattle.swd_host.specs.Standing.{HostNextAccess}
-pub use Rattle.swd_host.specs.Reports.{HostKnowsTarget, HostIsOpen, ListCloses, ListsWithin, RunFits, RunFitsFrom}
+pub use Rattle.swd_host.specs.Reports.{HostKnowsTarget, HostIsOpen, RunFits, RunFitsFrom}
+pub use Rattle.swd_host.specs.OpenLists.{ListCloses, ListsWithin}
 pub use Rattle.swd_host.specs.Reports.{RunsOver, RunsWithin, HostReport, host_report_of}
 pub use Rattle.swd_host.specs.Requests.{engine_job_starts, task_confirm_starts, engine_confirmed}
 pub use Rattle.swd_host.specs.Requests.{task_confirming_register, task_drw_register, engine_place_is_behind}
@@ -39,7 +40,8 @@ pub use Rattle.swd_host.specs.Standing.{BurstContinuesAt, EngineDoes, EngineDoes
 pub use Rattle.swd_host.specs.Standing.{EngineTargetIsOpen, EnginePerforms, BurstWriteIsPoised, EngineStands}
 pub use Rattle.swd_host.specs.Standing.{engine_report, EngineBetweenAccesses}
 pub use Rattle.swd_host.specs.Tasks.{access_of_task, task_is_block, is_burst, is_burst_write, task_is_read}
-pub use Rattle.swd_host.specs.Tasks.{task_most_begun, bursts_limit, task_for}
+pub use Rattle.swd_host.specs.Tasks.{task_most_begun, task_for}
+pub use Rattle.swd_host.specs.Bursts.{bursts_limit}
 pub use Rattle.swd_host.specs.Tracks.{task_ahead, EngineAheadAt, OpeningIsAwake, EngineBefore, TaskBusError}
 pub use Rattle.swd_host.specs.Tracks.{EngineMetBusError, by_damage, by_error, EngineTargetCalm, changed}
 pub use Rattle.swd_host.specs.Tracks.{EngineChecksFlags, cleared, TaskWriteConfirmed, TaskConfirmPhase, TaskConfirmTook}
@@ -76,14 +78,15 @@ pub use Rattle.swd_host.specs.declared.request.HostStep.TheVariants.{WriteTar, B
 pub use Rattle.swd_host.specs.declared.request.HostStep.TheVariants.{Identify, CheckCtrlStat, Power, Powered, ReadCsw}
 pub use Rattle.swd_host.specs.declared.request.HostStep.TheVariants.{Select, Transfer, WriteAbort}
 pub use Rattle.swd_host.specs.declared.task.Bursts.{Bursts}
-pub use Rattle.swd_host.specs.Tasks.{event_requests}
+pub use Rattle.swd_host.specs.Bursts.{event_requests}
 pub use Rattle.swd_host.specs.declared.task.Task.{Task}
 pub use Rattle.swd_host.specs.declared.task.Task.TheVariants.{BurstRead, BurstWrite, Read, Write}
 pub use Rattle.swd_port.specs.Answers.{is_exempt_register}
 pub use Rattle.swd_port.specs.Asking.{PortAsks, port_has_power, is_port_posted, pending_drw_once_read}
 pub use Rattle.swd_port.specs.Asking.{ctrl_stat_word_in}
 pub use Rattle.swd_port.specs.Choices.{Choice}
-pub use Rattle.swd_port.specs.Completion.{port_completed, PortCompletes, MayBecome}
+pub use Rattle.swd_port.specs.Completion.{port_completed, PortCompletes}
+pub use Rattle.swd_port.specs.Becoming.{MayBecome}
 pub use Rattle.swd_port.specs.Laws.WordsRead.{PortAbortClears, PortOnLine}
 pub use Rattle.swd_port.specs.Leading.{PortLeads}
 pub use Rattle.swd_port.specs.Moves.{PortWritten, PortPassed, PortWriteSpoiled}

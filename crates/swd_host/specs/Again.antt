@@ -8,10 +8,11 @@ use Rattle.swd_port.specs.declared.call.Call.{Call}
 use Rattle.swd_port.specs.declared.wire.Due.{Due}
 use Rattle.swd_port.specs.Bus.{Bus}
 use Rattle.swd_port.specs.Port.{Port}
-use Rattle.swd_port.specs.Completion.{MayBecome}
+use Rattle.swd_port.specs.Becoming.{MayBecome}
 use Rattle.swd_host.specs.declared.outcome.End.TheVariants.{All}
 use Rattle.swd_host.specs.declared.task.Bursts.{Bursts}
-use Rattle.swd_host.specs.Tasks.{resumed_bursts, event_requests}
+use Rattle.swd_host.specs.Tasks.{resumed_bursts}
+use Rattle.swd_host.specs.Bursts.{event_requests}
 use Rattle.swd_host.specs.Plain.{memory_after, answers_of}
 use Rattle.swd_host.specs.PlainRuns.{IsPlainWithRoom}
 use Rattle.swd_host.specs.Reports.{HostReport, Closes, Fits, HostKnowsTarget, HostEndsAt}

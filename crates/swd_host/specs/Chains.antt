@@ -4,13 +4,13 @@ use Rattle.swd_port.specs.declared.access.Access.{Access}
 use Rattle.swd_port.specs.declared.access.Access.TheVariants.{Read, Write}
 use Rattle.swd_port.specs.Bus.{Bus}
 use Rattle.swd_port.specs.Port.{Port}
-use Rattle.swd_port.specs.Completion.{MayBecome}
+use Rattle.swd_port.specs.Becoming.{MayBecome}
 use Rattle.swd_host.specs.declared.outcome.End.TheVariants.{All}
 use Rattle.swd_port.specs.PlainBus.{IsPlain, plain_words_of}
 use Rattle.swd_host.specs.Plain.{memory_after, answers_of}
 use Rattle.swd_host.specs.PlainRuns.{IsPlainWithRoom}
 use Rattle.swd_host.specs.declared.task.Bursts.{Bursts}
-use Rattle.swd_host.specs.Tasks.{bursts_limit}
+use Rattle.swd_host.specs.Bursts.{bursts_limit}
 use Rattle.swd_host.specs.Reports.{HostReport, Fits, IsAtRest, RunsWithin}
 use Rattle.swd_host.specs.Again.{Again, ResumePlacesBelow, ResumesOver, resume_added, resume_own_report}
 use Rattle.swd_host.specs.Again.{resume_repeats_of}

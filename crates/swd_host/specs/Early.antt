@@ -6,7 +6,7 @@ use Rattle.swd_port.specs.Bus.{Bus}
 use Rattle.swd_port.specs.Port.{Port, Target}
 use Rattle.swd_port.specs.declared.register.Register.TheVariants.{AbortWrite, SelectWrite}
 use Rattle.swd_port.specs.declared.state.Reset.TheVariants.{Unreset, Live}
-use Rattle.swd_port.specs.Completion.{MayBecome}
+use Rattle.swd_port.specs.Becoming.{MayBecome}
 use Rattle.swd_host.specs.declared.flags.Flags.{Flags}
 use Rattle.swd_host.specs.declared.outcome.End.{End}
 use Rattle.swd_host.specs.declared.outcome.End.TheVariants.{Lost, TriesOut}

@@ -1,5 +1,5 @@
 -- An engine as integers. Each enum is numbered from 1 on, so no engine has all zeros. An unused field is 0.
-use Rattle.std.specs.Prelude.{ℕ, Option, Some, None}
+use Rattle.std.specs.Prelude.{ℕ, Option, Some, None, List}
 use Rattle.swd_bits.specs.Bits.{bit}
 use Rattle.swd_port.specs.declared.access.Answer.TheVariants.{Value, Written, BusFault}
 use Rattle.swd_host.specs.declared.flags.Flags.{Flags}
@@ -30,6 +30,9 @@ use Rattle.swd_host.specs.declared.fields.StateFields.{StateFields}
 use Rattle.swd_host.specs.declared.fields.TarFields.{TarFields}
 use Rattle.swd_host.specs.declared.fields.TaskFields.{TaskFields}
 use Rattle.swd_host.specs.Flags.{no_host_flags}
+use Rattle.swd_port.specs.declared.access.Answer.{Answer}
+use Rattle.swd_host.specs.declared.outcome.Ending.{Ending}
+use Rattle.swd_host.specs.Reports.{HostReport}
 
 abbrev pub engine_place_number : HostStep → ℕ
 engine_place_number Identify = 1
@@ -127,4 +130,13 @@ fields_of_engine e = record {
   ahead = engine_ahead_number e.ahead;
   begun = e.begun;
   stray = bit e.stray;
+}
+
+-- the report with these answers
+abbrev pub host_report_to : List Answer → Ending → HostReport
+host_report_to answers ending = record {
+  answers = answers;
+  begun = ending.begun;
+  requests = ending.requests;
+  ended = ending.ended;
 }

@@ -29,8 +29,3 @@ IsHostAccess (Write at word) = (at < 2 ^ 32) × (at % 4 ≡ 0) × (word < 2 ^ 32
 abbrev pub AreHostAccesses : List Access → Type 0
 AreHostAccesses [] = Unit {0}
 AreHostAccesses (a ∷ list) = IsHostAccess a × AreHostAccesses list
-
--- the numbers of an access have 32 bits, as they always do in code
-abbrev pub HostAccessHasRanges : Access → Type 0
-HostAccessHasRanges (Read at) = at < 2 ^ 32
-HostAccessHasRanges (Write at word) = (at < 2 ^ 32) × (word < 2 ^ 32)

@@ -3,8 +3,10 @@
 use Rattle.std.specs.Prelude.{ℕ, ◌≡◌, ◌≢◌, ◌+◌, ◌≤◌, List, [], ◌∷◌, length, take}
 use Rattle.swd_port.specs.declared.access.Access.{Access}
 use Rattle.swd_port.specs.declared.access.Answer.{Answer}
-use Rattle.swd_port.specs.PlainMemory.{PlainMemory, plain_answer, plain_after}
-use Rattle.swd_port.specs.Bus.{Bus, plain_of, plain_after_all}
+use Rattle.swd_port.specs.PlainMemory.{PlainMemory}
+use Rattle.swd_port.specs.PlainAnswers.{plain_answer, plain_after}
+use Rattle.swd_port.specs.Bus.{Bus}
+use Rattle.swd_port.specs.PlainBus.{plain_of, plain_after_all}
 use Rattle.swd_port.specs.Port.{Port}
 use Rattle.swd_port.specs.Choices.{Choice}
 use Rattle.swd_port.specs.Completion.{port_completed}
@@ -12,7 +14,7 @@ use Rattle.swd_host.specs.declared.outcome.End.TheVariants.{All}
 use Rattle.swd_port.specs.PlainBus.{IsPlain, plain_logged}
 use Rattle.swd_host.specs.Plain.{memory_after}
 use Rattle.swd_host.specs.declared.task.Bursts.{Bursts}
-use Rattle.swd_host.specs.Tasks.{bursts_limit}
+use Rattle.swd_host.specs.Bursts.{bursts_limit}
 use Rattle.swd_host.specs.Reports.{HostReport, IsAtRest, RunsWithin, Fits}
 
 -- the answers of a plain memory to a list of accesses, in order

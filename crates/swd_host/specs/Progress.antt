@@ -14,7 +14,7 @@ use Rattle.swd_host.specs.declared.engine.State.{State}
 use Rattle.swd_host.specs.declared.engine.State.TheVariants.{Leading, Doing, Resting}
 use Rattle.swd_host.specs.declared.engine.Engine.{Engine}
 use Rattle.swd_host.specs.declared.task.Bursts.{Bursts}
-use Rattle.swd_host.specs.Tasks.{event_requests}
+use Rattle.swd_host.specs.Bursts.{event_requests}
 
 -- REQUESTS STILL OPEN: the most before the next outcome, without an event
 abbrev pub engine_left_at_place : HostStep → ℕ

@@ -6,21 +6,18 @@ use Rattle.swd_port.specs.declared.access.Access.TheVariants.{Read}
 use Rattle.swd_port.specs.declared.access.Answer.{Answer}
 use Rattle.swd_port.specs.declared.wire.Due.{Due}
 use Rattle.swd_port.specs.declared.wire.Due.TheVariants.{Nothing, Lost as DueLost}
-use Rattle.swd_port.specs.declared.state.PowerUp.TheVariants.{Seen}
-use Rattle.swd_port.specs.declared.state.Reset.TheVariants.{Live}
 use Rattle.swd_port.specs.Bus.{Bus}
-use Rattle.swd_port.specs.Port.{Port, Target}
+use Rattle.swd_port.specs.Port.{Port, Target, Live, Seen}
 use Rattle.swd_port.specs.Choices.{Choice}
 use Rattle.swd_port.specs.Completion.{port_completed}
 use Rattle.swd_host.specs.declared.outcome.Report.{Report}
-use Rattle.swd_host.specs.declared.outcome.Ending.{Ending}
 use Rattle.swd_host.specs.declared.outcome.Refused.{Refused}
 use Rattle.swd_host.specs.declared.outcome.Refused.TheVariants.{TooMany, Unaligned, Memory}
 use Rattle.swd_host.specs.declared.outcome.End.{End}
 use Rattle.swd_host.specs.declared.outcome.End.TheVariants.{All, Lost, TriesOut}
 use Rattle.swd_host.specs.declared.task.Bursts.{Bursts}
 use Rattle.swd_host.specs.declared.task.Bursts.TheVariants.{Writes}
-use Rattle.swd_host.specs.Tasks.{bursts_limit, event_requests}
+use Rattle.swd_host.specs.Bursts.{bursts_limit, event_requests}
 use Rattle.swd_host.specs.Plain.{memory_after, answers_of, AreHostAccesses, host_access_is_aligned}
 use Rattle.swd_port.specs.Registers.{port_select_zero}
 
@@ -37,15 +34,6 @@ host_report_of report = record {
   begun = report.begun;
   requests = report.requests;
   ended = report.ended;
-}
-
--- the report with these answers
-abbrev pub host_report_to : List Answer → Ending → HostReport
-host_report_to answers ending = record {
-  answers = answers;
-  begun = ending.begun;
-  requests = ending.requests;
-  ended = ending.ended;
 }
 
 -- The answers are exactly those to the first k accesses of the list over the bus. The bus `now` is that
@@ -67,9 +55,6 @@ abbrev pub FitsFrom : ℕ → ℕ → List Access → Bus → HostReport → Bus
 FitsFrom spent most list m told now = (k : ℕ) × FitsFromAt spent most k list m told now
 
 -- the same for a run: its opening takes at least nine requests
-abbrev pub FitsAt : ℕ → ℕ → List Access → Bus → HostReport → Bus → Type 0
-FitsAt most k list m told now = FitsFromAt 9 most k list m told now
-
 abbrev pub Fits : ℕ → List Access → Bus → HostReport → Bus → Type 0
 Fits most list m told now = FitsFrom 9 most list m told now
 
@@ -111,11 +96,6 @@ pub record ClosesWithin (most : ℕ → ℕ) (limit : ℕ) (list : List Access) 
 abbrev pub Closes : ℕ → Bursts → List Access → ℕ → HostReport → Due → Type 0
 Closes spare kind list tries told next =
     ClosesWithin (λ n. spare + host_most_requests kind tries n) (bursts_limit kind) list told next
-
--- the same for a list over an open target
-abbrev pub ListCloses : Bursts → List Access → ℕ → HostReport → Due → Type 0
-ListCloses kind list tries told next =
-    ClosesWithin (host_list_requests kind tries) (bursts_limit kind) list told next
 
 -- WHERE WHAT WAS OBSERVED IS CONSISTENT WITH THE MODEL
 
@@ -179,10 +159,6 @@ RunFits kind list tries m told s t = RunFitsFrom 9 kind list tries m told s t
 -- the same for every target at rest, whatever its memory; a simulated target that was just made is at rest
 abbrev pub RunsWithin : Bursts → List Access → ℕ → HostReport → Port → Port → Type 0
 RunsWithin kind list tries told s t = IsAtRest s → RunFits kind list tries s.target.memory told s t
-
--- the theorem of a list over an open target: no request comes before it
-abbrev pub ListsWithin : Bursts → List Access → ℕ → HostReport → Port → Port → Type 0
-ListsWithin kind list tries told s t = HostIsOpen s → RunFitsFrom 0 kind list tries s.target.memory told s t
 
 -- the same for a run with bursts of writes, in which at most one unanswered access is begun
 abbrev pub RunsOver : List Access → ℕ → HostReport → Port → Port → Type 0

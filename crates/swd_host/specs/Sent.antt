@@ -1,6 +1,6 @@
 -- How a report relates to the calls that were made of the wire, whatever the target answers.
-use Rattle.std.specs.Prelude.{ℕ, ◌≡◌, ◌+◌, ◌%◌, ◌<◌, ◌≤◌, ◌==◌, ◌&&◌, ◌||◌, ◌⊎◌, Bool, true, false, Some}
-use Rattle.std.specs.Prelude.{List, [], ◌∷◌, ◌++◌, length, if◌then◌else◌, count_by, slice_index_or as get_or}
+use Rattle.std.specs.Prelude.{ℕ, ◌≡◌, ◌+◌, ◌%◌, ◌<◌, ◌≤◌, ◌==◌, ◌&&◌, ◌||◌, ◌⊎◌, Bool, true, false, Some, List, [], ◌∷◌}
+use Rattle.std.specs.Prelude.{◌++◌, length, if◌then◌else◌, count_by, slice_index_or as get_or}
 use Rattle.swd_bits.specs.declared.request.Reg4.{Reg4}
 use Rattle.swd_bits.specs.declared.request.Request.{Request}
 use Rattle.swd_bits.specs.declared.request.Reg4.TheVariants.{RC}
@@ -12,14 +12,11 @@ use Rattle.swd_port.specs.declared.access.Answer.TheVariants.{Written, Value, Bu
 use Rattle.swd_port.specs.declared.call.Call.{Call}
 use Rattle.swd_port.specs.declared.cue.Cue.{Cue}
 use Rattle.swd_port.specs.declared.cue.Cue.TheVariants.{Lead, Ask, Take, Give}
-use Rattle.swd_port.specs.declared.register.Register.{Register}
-use Rattle.swd_port.specs.declared.register.Register.TheVariants.{CtrlStatRead, DrwRead, DrwWrite, RdbuffRead}
-use Rattle.swd_port.specs.declared.register.Register.TheVariants.{ResendRead, AbortWrite, CtrlStatWrite, SelectWrite}
-use Rattle.swd_port.specs.declared.register.Register.TheVariants.{CswWrite, TarRead, TarWrite, DpOtherRead}
-use Rattle.swd_port.specs.declared.register.Register.TheVariants.{DpIgnoredWrite, ApOtherRead, ApOtherWrite}
 use Rattle.swd_port.specs.PlainMemory.{plain_address}
 use Rattle.swd_port.specs.Registers.{ctrl_stat_holds}
-use Rattle.swd_port.specs.Port.{port_request_for}
+use Rattle.swd_port.specs.Port.{port_request_for, Register, AbortWrite, CtrlStatRead, CtrlStatWrite, SelectWrite}
+use Rattle.swd_port.specs.Port.{ResendRead, RdbuffRead, DpOtherRead, DpIgnoredWrite, CswWrite, TarRead, TarWrite}
+use Rattle.swd_port.specs.Port.{DrwRead, DrwWrite, ApOtherRead, ApOtherWrite}
 use Rattle.swd_port.specs.Stories.{is_port_ask}
 use Rattle.swd_host.specs.declared.outcome.End.TheVariants.{All}
 use Rattle.swd_host.specs.Reports.{HostReport}
@@ -69,9 +66,9 @@ abbrev pub host_since_after_call : Call → HostSince → HostSince
 host_since_after_call call since = if is_port_ask call.cue && (call.seen == 4) then host_since_refused since else since
 
 -- no access awaits its confirmation: no data phase passed, or a request was refused since
-abbrev pub HostSawNoRefusal : ℕ → HostSince → Type 0
-HostSawNoRefusal sent Quiet = sent ≡ 0
-HostSawNoRefusal sent since = Unit {0}
+abbrev pub HostAwaitsNone : ℕ → HostSince → Type 0
+HostAwaitsNone sent Quiet = sent ≡ 0
+HostAwaitsNone sent since = Unit {0}
 
 -- its data phase has the word of the transfer before it; RESEND returns it again
 abbrev pub host_register_gives_word : Register → Bool
@@ -90,7 +87,7 @@ pub data HostSent (list : List Access) : List Answer → ℕ → ℕ → HostSin
   none : HostSent list [] 0 0 Quiet []
   -- any call but a data phase of DRW, and an OK that would confirm an access or replace the word of one
   other : {answers : List Answer} {sent sure : ℕ} {since : HostSince} {calls : List Call} (call : Call)
-      → host_awaits_drw calls ≡ false → (is_host_confirmation call ≡ true → HostSawNoRefusal sent since × (sure ≡ 0))
+      → host_awaits_drw calls ≡ false → (is_host_confirmation call ≡ true → HostAwaitsNone sent since × (sure ≡ 0))
       → HostSent list answers sent sure since calls
       → HostSent list answers sent sure (host_since_after_call call since) (call ∷ calls)
   -- the data phase of the first access that isn't confirmed, for the first time or repeated

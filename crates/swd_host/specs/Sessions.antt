@@ -3,12 +3,14 @@ use Rattle.std.specs.Prelude.{ℕ, ◌≡◌, ◌%◌, List, [], ◌++◌}
 use Rattle.swd_port.specs.declared.access.Access.{Access}
 use Rattle.swd_port.specs.declared.access.Answer.{Answer}
 use Rattle.swd_port.specs.Bus.{Bus}
-use Rattle.swd_port.specs.Port.{Port, port_made}
+use Rattle.swd_port.specs.Port.{Port}
+use Rattle.swd_port.specs.Made.{port_made}
 use Rattle.swd_host.specs.declared.outcome.End.TheVariants.{All}
 use Rattle.swd_host.specs.Plain.{memory_after, answers_of}
 use Rattle.swd_host.specs.declared.outcome.End.{End}
 use Rattle.swd_host.specs.declared.task.Bursts.{Bursts}
-use Rattle.swd_host.specs.Reports.{HostIsOpen, HostReport, IsAtRest, ListsWithin, RunsWithin}
+use Rattle.swd_host.specs.Reports.{HostIsOpen, HostReport, IsAtRest, RunsWithin}
+use Rattle.swd_host.specs.OpenLists.{ListsWithin}
 
 -- a target that was just made is at rest, with its memory, where bit 0 of its identification is 1
 pub record HostFindsMadeAtRest : Type 0 where

@@ -23,7 +23,7 @@ use Rattle.swd_host.specs.declared.request.HostStep.TheVariants.{Confirm, Behind
 use Rattle.swd_host.specs.declared.task.Task.{Task}
 use Rattle.swd_host.specs.Engines.{engine_begun, engine_is_ahead, engine_is_ahead_at, engine_count_more}
 use Rattle.swd_host.specs.Requests.{engine_job_starts, engine_register_for}
-use Rattle.swd_host.specs.Sent.{HostSent, HostSawNoRefusal, HostSince, host_awaits_drw, host_okay}
+use Rattle.swd_host.specs.Sent.{HostSent, HostAwaitsNone, HostSince, host_awaits_drw, host_okay}
 use Rattle.swd_host.specs.Sent.{HostMakes, host_idles}
 use Rattle.swd_host.specs.Sent.{Quiet, Failed as Fails}
 use Rattle.swd_host.specs.Tasks.{task_is_block, task_is_read}
@@ -61,7 +61,7 @@ engine_stage (Check Confirm owed) task s c f = (s ≡ 1) × (c ≡ 0) × EngineO
 engine_stage (Check Behind owed) task s c f = (s ≡ 2) × (c ≡ 1) × (f ≡ Fails) × (task_is_block task ≡ true)
     × (owed.error ≡ true)
 engine_stage LastStatus task s c f = Unit {0}
-engine_stage job task s c f = (s ≤ 1) × (c ≡ 0) × HostSawNoRefusal s f
+engine_stage job task s c f = (s ≤ 1) × (c ≡ 0) × HostAwaitsNone s f
 
 -- the stage after the request was answered FAULT
 abbrev pub engine_fault_stage : Job → Task → ℕ → ℕ → HostSince → Type 0

@@ -19,7 +19,8 @@ use Rattle.swd_host.specs.declared.engine.Ahead.TheVariants.{Unsent}
 use Rattle.swd_host.specs.declared.engine.Engine.{Engine}
 use Rattle.swd_host.specs.Addresses.{continues_burst}
 use Rattle.swd_host.specs.Plain.{memory_after, answers_of, AreHostAccesses}
-use Rattle.swd_host.specs.Tasks.{access_of_task, is_burst, bursts_limit, event_requests}
+use Rattle.swd_host.specs.Tasks.{access_of_task, is_burst}
+use Rattle.swd_host.specs.Bursts.{bursts_limit, event_requests}
 use Rattle.swd_host.specs.Engines.{engine_begun, engine_is_ahead, engine_outcome, engine_may_start}
 use Rattle.swd_host.specs.Tracks.{EngineHand, EngineTargetUp, EngineWrites, EngineIsReady, hand_of_engine}
 use Rattle.swd_host.specs.Tracks.{EngineDueFits}

@@ -51,16 +51,6 @@ abbrev pub task_most_begun : Task → ℕ
 task_most_begun (BurstRead at) = 2
 task_most_begun task = 1
 
-abbrev pub bursts_limit : Bursts → ℕ
-bursts_limit Reads = 2
-bursts_limit kind = 1
-
--- how many further requests an event takes at most; where each write is confirmed by itself, a corrupted one may take
--- TAR's write too
-abbrev pub event_requests : Bursts → ℕ
-event_requests Never = 6
-event_requests kind = 5
-
 -- the kind with which a run is resumed: the reads of a block are then confirmed one by one
 abbrev pub resumed_bursts : Bursts → Bursts
 resumed_bursts Writes = Writes

@@ -41,7 +41,7 @@ use Rattle.swd_port.specs.Bus.{Bus, bus_answer, bus_after}
 use Rattle.swd_port.specs.PlainMemory.{plain_address}
 use Rattle.swd_port.specs.Registers.{port_select_zero, ctrl_stat_holds}
 use Rattle.swd_bits.specs.Phases.{data_phase_number}
-use Rattle.swd_port.specs.Phases.{port_flipped}
+use Rattle.swd_port.specs.Choices.{port_flipped}
 use Rattle.swd_port.specs.Port.{Port, Target}
 use Rattle.swd_port.specs.declared.register.Register.{Register}
 use Rattle.swd_port.specs.declared.register.Register.TheVariants.{AbortWrite, CtrlStatWrite, SelectWrite, CswWrite}

@@ -25,7 +25,8 @@ use Rattle.swd_host.specs.declared.engine.State.{State}
 use Rattle.swd_host.specs.declared.engine.State.TheVariants.{Leading, Doing, Resting}
 use Rattle.swd_host.specs.declared.engine.Engine.{Engine}
 use Rattle.swd_host.specs.Addresses.{engine_knows_address, continues_burst}
-use Rattle.swd_host.specs.Tasks.{task_for, access_of_task, is_burst, task_is_block, task_most_begun, event_requests}
+use Rattle.swd_host.specs.Tasks.{task_for, access_of_task, is_burst, task_is_block, task_most_begun}
+use Rattle.swd_host.specs.Bursts.{event_requests}
 use Rattle.swd_host.specs.Engines.{engine_is_ahead, engine_is_resting, engine_job}
 use Rattle.swd_host.specs.Progress.{engine_left_for, engine_left_in, engine_stray_left, engine_least_for}
 use Rattle.swd_host.specs.Progress.{engine_least_in, engine_open_requests, engine_state_is_of, engine_is_quiet}

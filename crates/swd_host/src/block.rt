@@ -1,7 +1,7 @@
 //! Reads a block of words.
 ghost use Rattle.std.specs.Prelude.{◌≡◌, ◌≤◌, ◌+◌, ◌*◌, ◌^◌, IfOk, IfErr, IfNone, IfSome};
 ghost use Rattle.swd_port.specs.declared.wire.Due.TheVariants.{Nothing};
-ghost use Rattle.swd_port.specs.PlainMemory.{plain_reads};
+ghost use Rattle.swd_port.specs.PlainAnswers.{plain_reads};
 ghost use Rattle.swd_host.specs.Plain.{AreHostAccesses};
 ghost use Rattle.swd_host.specs.Sent.{HostCalls, HostReportsCalls};
 ghost use Rattle.swd_host.specs.declared.task.Bursts.TheVariants.{Reads};

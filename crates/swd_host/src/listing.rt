@@ -3,11 +3,12 @@
 ghost use Rattle.std.specs.Prelude.{◌≡◌, ◌≢◌, ◌≤◌, ◌<◌, ◌+◌, ◌*◌, ◌^◌, ◌++◌, [], length, drop, IfOk, IfErr};
 ghost use Rattle.std.specs.Vec.{vec_capacity};
 ghost use Rattle.swd_port.specs.declared.wire.Due.TheVariants.{Nothing};
-ghost use Rattle.swd_port.specs.PlainMemory.{plain_reads};
+ghost use Rattle.swd_port.specs.PlainAnswers.{plain_reads};
 ghost use Rattle.swd_host.specs.Plain.{AreHostAccesses};
 ghost use Rattle.swd_host.specs.declared.outcome.Refused.TheVariants.{Memory};
-ghost use Rattle.swd_host.specs.Reports.{Closes, HostRefusesList, ListCloses, ListsWithin, RunsOver, host_report_of};
-ghost use Rattle.swd_host.specs.Reports.{host_report_to};
+ghost use Rattle.swd_host.specs.Reports.{Closes, HostRefusesList, RunsOver, host_report_of};
+ghost use Rattle.swd_host.specs.OpenLists.{ListCloses, ListsWithin};
+ghost use Rattle.swd_host.specs.Fields.{host_report_to};
 ghost use Rattle.swd_host.specs.Sent.{HostCalls, HostReportsCalls};
 ghost use Rattle.swd_host.specs.Sessions.{HostOpens};
 

@@ -5,7 +5,8 @@ ghost use Rattle.std.specs.Vec.{vec_capacity};
 ghost use Rattle.swd_port.specs.declared.wire.Due.TheVariants.{Nothing};
 ghost use Rattle.swd_port.specs.Leading.{PortLeads};
 ghost use Rattle.swd_host.specs.Calls.{EngineTurns, EngineTurnsFrom, host_idle_call};
-ghost use Rattle.swd_host.specs.Plain.{AreHostAccesses, HostAccessHasRanges, host_access_is_aligned};
+ghost use Rattle.swd_host.specs.Plain.{AreHostAccesses, host_access_is_aligned};
+ghost use Rattle.swd_host.specs.Accepting.{HostAccessHasRanges};
 ghost use Rattle.swd_host.specs.Engines.{engine_outcome, engine_is_resting, engine_may_start, engine_requests};
 ghost use Rattle.swd_host.specs.Progress.{engine_calls_left, engine_open_requests};
 ghost use Rattle.swd_host.specs.Tracks.{EngineDueFits};
@@ -14,7 +15,7 @@ ghost use Rattle.swd_host.specs.Turns.{EngineContinuesBurst, EngineIsNew, engine
 ghost use Rattle.swd_host.specs.Turns.{engine_state_opened_as};
 ghost use Rattle.swd_host.specs.Reports.{Closes, HostRefusesList, RunsOver, RunsWithin, host_report_of};
 ghost use Rattle.swd_host.specs.Standing.{HostNextAccess};
-ghost use Rattle.swd_host.specs.Reports.{host_report_to};
+ghost use Rattle.swd_host.specs.Fields.{host_report_to};
 ghost use Rattle.swd_host.specs.declared.outcome.Refused.TheVariants.{Memory};
 ghost use Rattle.swd_port.specs.declared.access.Answer.{Answer as AnswerType};
 ghost use Rattle.swd_host.specs.Sent.{HostCalls, HostReportsCalls};

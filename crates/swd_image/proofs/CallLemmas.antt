@@ -16,7 +16,7 @@ use Rattle.swd_host.proofs.ReadChains.{resume_chain_plain}
 use Rattle.swd_host.specs.Reports.{HostReport, IsAtRest}
 use Rattle.swd_script.specs.Scripts.{ScriptListed}
 use Rattle.swd_host.specs.declared.task.Bursts.{Bursts}
-use Rattle.swd_host.specs.Tasks.{bursts_limit}
+use Rattle.swd_host.specs.Bursts.{bursts_limit}
 use Rattle.swd_run.specs.GoingOn.{ScriptCalls, ran, resumed}
 use Rattle.swd_run.specs.Sessions.{ScriptRun, batch_bursts}
 use Rattle.swd_run.specs.declared.going_on.Stop.{Stop}

@@ -10,9 +10,11 @@ use Rattle.swd_port.specs.declared.access.Access.{Access}
 use Rattle.swd_port.specs.declared.access.Access.TheVariants.{Read, Write}
 use Rattle.swd_port.specs.declared.access.Answer.{Answer}
 use Rattle.swd_port.specs.declared.access.Answer.TheVariants.{Value, Written, BusFault}
-use Rattle.swd_port.specs.PlainMemory.{PlainMemory, plain_address, plain_done_answer, plain_done, plain_after}
-use Rattle.swd_port.specs.PlainMemory.{plain_answer, succeeds_at}
-use Rattle.swd_port.specs.Bus.{Bus, bus_after, bus_answer, plain_of}
+use Rattle.swd_port.specs.PlainMemory.{PlainMemory, plain_address}
+use Rattle.swd_port.specs.PlainAnswers.{plain_done_answer, plain_done, plain_after}
+use Rattle.swd_port.specs.PlainAnswers.{plain_answer, succeeds_at}
+use Rattle.swd_port.specs.Bus.{Bus, bus_after, bus_answer}
+use Rattle.swd_port.specs.PlainBus.{plain_of}
 use Rattle.swd_port.proofs.MapLemmas.{port_map_get_other, port_map_get_same}
 use Rattle.swd_host.specs.Again.{resume_added}
 use Rattle.swd_host.specs.Chains.{ResumeChain, first, again}

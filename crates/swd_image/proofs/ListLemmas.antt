@@ -5,7 +5,7 @@ use Rattle.std.specs.Prelude.{◌==◌, ◌&&◌, Bool, false}
 use Rattle.std.specs.List.{list_all}
 use Rattle.std.proofs.lemmas.Bool.{eq-eqb}
 use Rattle.swd_port.specs.declared.access.Access.TheVariants.{Read, Write}
-use Rattle.swd_port.specs.PlainMemory.{plain_reads}
+use Rattle.swd_port.specs.PlainAnswers.{plain_reads}
 use Rattle.swd_port.proofs.ReadLists.{plain_reads_length}
 use Rattle.swd_script.specs.Laws.{IsScriptBatch, IsScriptBlock, is_script_word_access}
 use Rattle.swd_image.specs.Lists.{image_writes}

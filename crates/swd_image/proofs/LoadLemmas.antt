@@ -7,8 +7,9 @@ use Rattle.swd_port.specs.declared.access.Access.{Access}
 use Rattle.swd_port.specs.declared.access.Access.TheVariants.{Read, Write}
 use Rattle.swd_port.specs.declared.access.Answer.{Answer}
 use Rattle.swd_port.specs.declared.access.Answer.TheVariants.{Value, Written, BusFault}
-use Rattle.swd_port.specs.PlainMemory.{plain_address, plain_reads}
-use Rattle.swd_port.specs.Bus.{plain_of}
+use Rattle.swd_port.specs.PlainMemory.{plain_address}
+use Rattle.swd_port.specs.PlainAnswers.{plain_reads}
+use Rattle.swd_port.specs.PlainBus.{plain_of}
 use Rattle.swd_port.specs.PlainBus.{IsPlain, plain_words_of}
 use Rattle.swd_host.specs.Chains.{AreBlockReads}
 use Rattle.swd_host.specs.Reports.{IsAtRest}

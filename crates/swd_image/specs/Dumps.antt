@@ -1,7 +1,7 @@
 -- The results of a dump and of a verification over a wire.
 use Rattle.std.specs.Prelude.{ℕ, ◌≡◌, ◌+◌, ◌<◌, ◌≤◌, ◌%◌, ◌^◌, List, length, Option, None, Some}
 use Rattle.std.specs.FinMap.{get}
-use Rattle.swd_port.specs.Bus.{plain_of}
+use Rattle.swd_port.specs.PlainBus.{plain_of}
 use Rattle.swd_port.specs.PlainBus.{IsPlain, plain_words_of}
 use Rattle.swd_host.specs.Reports.{IsAtRest}
 use Rattle.swd_run.specs.declared.limits.Limits.{Limits}

@@ -1,6 +1,6 @@
 -- The result of a load over a wire.
 use Rattle.std.specs.Prelude.{ℕ, ◌≡◌, ◌+◌, ◌<◌, ◌≤◌, ◌^◌, ◌⊎◌, List, length}
-use Rattle.swd_port.specs.Bus.{plain_of}
+use Rattle.swd_port.specs.PlainBus.{plain_of}
 use Rattle.swd_port.specs.PlainBus.{IsPlain}
 use Rattle.swd_host.specs.Reports.{IsAtRest}
 use Rattle.swd_run.specs.declared.limits.Limits.{Limits}

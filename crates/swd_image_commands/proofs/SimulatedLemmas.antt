@@ -2,7 +2,7 @@
 use Rattle.std.proofs.Common.{◌≡◌, ℕ, List, Option, None, Result, Ok, Err, refl, subst, sym}
 use Rattle.std.proofs.lemmas.Result.{IfOk-weaker}
 use Rattle.std.specs.Prelude.{IfOk, is_some}
-use Rattle.swd_port.specs.Bus.{bus_of, plain_of}
+use Rattle.swd_port.specs.PlainBus.{bus_of, plain_of}
 use Rattle.swd_port.specs.PlainMemory.{PlainMemory}
 use Rattle.swd_host.specs.Reports.{IsAtRest}
 use Rattle.swd_target.specs.declared.bench.Bench.{Bench}

@@ -4,7 +4,7 @@ use Rattle.std.specs.Prelude.{is_some, true}
 use Rattle.swd_io.specs.Pieces.{IsReaderText}
 use Rattle.swd_port.specs.declared.mark.Mark.{Mark}
 use Rattle.swd_port.specs.PlainMemory.{PlainMemory}
-use Rattle.swd_port.specs.Bus.{bus_of, plain_of}
+use Rattle.swd_port.specs.PlainBus.{bus_of, plain_of}
 use Rattle.swd_target.specs.declared.bench.Bench.{Bench}
 use Rattle.swd_target.specs.Benches.{bench_plan, bench_port}
 use Rattle.swd_target.specs.MemoryWords.{target_words_from}

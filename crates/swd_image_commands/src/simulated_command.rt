@@ -1,7 +1,7 @@
 //! Performs `swd load`, `swd verify` and `swd dump` at a simulated target, whose memory is in a file.
 ghost use Rattle.std.specs.Prelude.{◌≡◌, ◌+◌, ◌≤◌, ◌^◌, ℕ, IfErr, IfOk, IfSome, List, Option, is_some, length};
 ghost use Rattle.swd_host.specs.Reports.{IsAtRest};
-ghost use Rattle.swd_port.specs.Bus.{bus_of};
+ghost use Rattle.swd_port.specs.PlainBus.{bus_of};
 ghost use Rattle.swd_target.specs.Benches.{bench_port};
 ghost use Rattle.swd_target.specs.Marks.{IsLegalPlan};
 ghost use Rattle.swd_image_ends.specs.Pieces.{pieces_to_load};

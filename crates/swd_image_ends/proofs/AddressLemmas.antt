@@ -8,8 +8,10 @@ use Rattle.swd_port.specs.declared.access.Access.{Access}
 use Rattle.swd_port.specs.declared.access.Access.TheVariants.{Read, Write}
 use Rattle.swd_port.specs.declared.access.Answer.{Answer}
 use Rattle.swd_port.specs.declared.wire.Wire.{Ghosts}
-use Rattle.swd_port.specs.PlainMemory.{PlainMemory, plain_address, plain_done, plain_after, succeeds_at}
-use Rattle.swd_port.specs.Bus.{Bus, bus_after, plain_of}
+use Rattle.swd_port.specs.PlainMemory.{PlainMemory, plain_address}
+use Rattle.swd_port.specs.PlainAnswers.{plain_done, plain_after, succeeds_at}
+use Rattle.swd_port.specs.Bus.{Bus, bus_after}
+use Rattle.swd_port.specs.PlainBus.{plain_of}
 use Rattle.swd_port.proofs.MapLemmas.{port_map_get_other, port_map_get_same}
 use Rattle.swd_host.specs.Chains.{ResumeChain, first, again}
 use Rattle.swd_port.specs.PlainBus.{IsPlain, plain_words_of}
@@ -18,7 +20,7 @@ use Rattle.swd_host.proofs.ReadChains.{resume_chain_plain}
 use Rattle.swd_port.proofs.PlainBusLaws.{is_plain_next, plain_of_next}
 use Rattle.swd_host.specs.Reports.{IsAtRest, HostReport}
 use Rattle.swd_host.specs.declared.task.Bursts.{Bursts}
-use Rattle.swd_host.specs.Tasks.{bursts_limit}
+use Rattle.swd_host.specs.Bursts.{bursts_limit}
 use Rattle.swd_run.specs.declared.limits.Limits.{Limits}
 use Rattle.swd_run.specs.Sessions.{batch_bursts}
 use Rattle.swd_run.proofs.WentLemmas.{rests, tell_of}

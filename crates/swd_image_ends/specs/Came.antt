@@ -1,7 +1,7 @@
 -- What a load, a verification and a dump state of the calls that were made of a wire.
 use Rattle.std.specs.Prelude.{ℕ, List, Option, Result, OnOk, IfOk, IfErr}
 use Rattle.swd_port.specs.declared.wire.Wire.{Ghosts}
-use Rattle.swd_port.specs.Bus.{bus_of}
+use Rattle.swd_port.specs.PlainBus.{bus_of}
 use Rattle.swd_port.specs.PlainMemory.{PlainMemory}
 use Rattle.swd_target.specs.declared.bench.Bench.{Bench}
 use Rattle.swd_target.specs.Benches.{bench_plan, bench_port}

@@ -4,7 +4,7 @@ use Rattle.std.specs.Prelude.{Option, None, Some, if◌then◌else◌}
 use Rattle.std.specs.FinMap.{get}
 use Rattle.swd_port.specs.declared.wire.Wire.{Ghosts}
 use Rattle.swd_port.specs.PlainMemory.{PlainMemory}
-use Rattle.swd_port.specs.Bus.{plain_of}
+use Rattle.swd_port.specs.PlainBus.{plain_of}
 use Rattle.swd_port.specs.PlainBus.{IsPlain}
 use Rattle.swd_host.specs.Reports.{IsAtRest}
 use Rattle.swd_run.specs.declared.limits.Limits.{Limits}

@@ -1,5 +1,5 @@
 //! The memory of a simulated target as bytes.
-ghost use Rattle.swd_port.specs.Bus.{bus_of, plain_of};
+ghost use Rattle.swd_port.specs.PlainBus.{bus_of, plain_of};
 ghost use Rattle.std.specs.Prelude.{◌≡◌, ◌+◌, ◌/◌, ◌%◌, ◌<◌, ◌≤◌, ◌^◌, IfSome, Some, length};
 ghost use Rattle.std.specs.FinMap.{get, insert};
 ghost use Rattle.swd_host.specs.Reports.{IsAtRest};

@@ -11,7 +11,8 @@ use Rattle.swd_port.specs.declared.state.Reset.TheVariants.{Fresh}
 use Rattle.swd_port.specs.declared.state.Reply.TheVariants.{Waits, Faults}
 use Rattle.swd_port.specs.declared.state.AfterAck.{AfterAck}
 use Rattle.swd_port.specs.declared.state.AfterAck.TheVariants.{Idle}
-use Rattle.swd_port.specs.Port.{Port, Target, port_made, port_register}
+use Rattle.swd_port.specs.Port.{Port, Target, port_register}
+use Rattle.swd_port.specs.Made.{port_made}
 use Rattle.swd_port.specs.Completion.{PortCompletes}
 use Rattle.swd_port.specs.Leading.{PortLeads, port_line_awaits, port_after_lead}
 use Rattle.swd_port.specs.Asking.{PortAsks, port_reply}

@@ -13,7 +13,7 @@ use Rattle.swd_port.specs.declared.state.Drw.{Drw}
 use Rattle.swd_port.specs.declared.state.Drw.TheVariants.{Reads as DrwReads, Writes as DrwWrites}
 use Rattle.swd_port.specs.declared.state.PowerUp.TheVariants.{Seen}
 use Rattle.swd_port.specs.Choices.{Choice}
-use Rattle.swd_port.specs.Phases.{port_flipped}
+use Rattle.swd_port.specs.Choices.{port_flipped}
 use Rattle.swd_port.specs.declared.csw.Csw.{Csw}
 use Rattle.swd_port.specs.Registers.{select_of, csw_of}
 use Rattle.swd_port.specs.Port.{Target}

@@ -12,7 +12,7 @@ use Rattle.swd_port.specs.declared.register.Register.{Register}
 use Rattle.swd_port.specs.declared.register.Register.TheVariants.{DrwRead, ResendRead}
 use Rattle.swd_port.specs.declared.select.Select.{Select}
 use Rattle.swd_port.specs.declared.state.AfterAck.TheVariants.{Drives}
-use Rattle.swd_port.specs.Phases.{port_flipped}
+use Rattle.swd_port.specs.Choices.{port_flipped}
 use Rattle.swd_port.specs.Port.{Port, Target, port_register, port_register_where, mem_ap_register}
 use Rattle.swd_port.specs.Choices.{Choice}
 use Rattle.swd_port.specs.Port.{port_other_ap_register, port_selects_mem_ap}

@@ -11,7 +11,7 @@ use Rattle.swd_port.specs.declared.select.Select.{Select}
 use Rattle.swd_port.specs.declared.mark.Mark.{Mark}
 use Rattle.swd_port.specs.declared.register.Register.TheVariants.{CtrlStatRead, DpOtherRead}
 use Rattle.swd_port.specs.declared.state.AfterAck.TheVariants.{Drives}
-use Rattle.swd_port.specs.Phases.{port_flipped}
+use Rattle.swd_port.specs.Choices.{port_flipped}
 use Rattle.swd_port.specs.Registers.{register_bit}
 use Rattle.swd_port.specs.Port.{Port, Target, port_register, port_dp_register, port_register_where}
 use Rattle.swd_port.specs.Port.{port_selects_mem_ap}

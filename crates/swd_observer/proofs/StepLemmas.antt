@@ -10,7 +10,7 @@ use Rattle.swd_port.specs.declared.state.PowerUp.{PowerUp}
 use Rattle.swd_port.specs.declared.state.PowerUp.TheVariants.{Seen}
 use Rattle.swd_port.specs.declared.state.AfterAck.TheVariants.{Drives, Awaits}
 use Rattle.swd_port.specs.Choices.{Choice}
-use Rattle.swd_port.specs.Phases.{port_flipped}
+use Rattle.swd_port.specs.Choices.{port_flipped}
 use Rattle.swd_port.specs.Port.{Port, Target}
 use Rattle.swd_port.specs.Answers.{is_port_unpowered, is_port_power_there}
 use Rattle.swd_port.specs.Completion.{PortCompletes}

@@ -3,7 +3,8 @@ use Rattle.std.specs.Prelude.{ℕ, ◌≡◌, true, false, List, [], ◌∷◌, 
 use Rattle.swd_bits.specs.declared.tx.Tx.{Tx}
 use Rattle.swd_port.specs.declared.access.Transfer.{Transfer}
 use Rattle.swd_port.specs.Bus.{Bus}
-use Rattle.swd_port.specs.Port.{Port, port_made}
+use Rattle.swd_port.specs.Port.{Port}
+use Rattle.swd_port.specs.Made.{port_made}
 use Rattle.swd_port.specs.Choices.{Choice, IsPortChoice}
 use Rattle.swd_port.specs.Completion.{port_completed}
 use Rattle.swd_port.specs.Leading.{PortLeads, port_line_awaits}

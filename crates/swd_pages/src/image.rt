@@ -1,7 +1,7 @@
 //! An image that is loaded over a wire.
 ghost use Rattle.std.specs.Prelude.{◌≡◌, OnOk};
 ghost use Rattle.swd_port.specs.declared.wire.Due.TheVariants.{Nothing};
-ghost use Rattle.swd_port.specs.Bus.{plain_of};
+ghost use Rattle.swd_port.specs.PlainBus.{plain_of};
 ghost use Rattle.swd_port.specs.PlainBus.{IsPlain};
 ghost use Rattle.swd_host.specs.Reports.{IsAtRest};
 ghost use Rattle.swd_image.specs.Images.{IsImageLoaded};

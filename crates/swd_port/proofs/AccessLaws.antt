@@ -3,8 +3,9 @@ use Rattle.std.proofs.Common.{◌≡◌, ◌≢◌, ◌+◌, ◌<◌, ◌^◌, �
 use Rattle.std.specs.Prelude.{Option, Some, None}
 use Rattle.swd_port.specs.declared.access.Access.TheVariants.{Read, Write}
 use Rattle.swd_port.specs.declared.access.Answer.TheVariants.{Value}
-use Rattle.swd_bits.specs.Phases.{IsDataPhaseOf, data_phase_number}
-use Rattle.swd_port.specs.Phases.{port_flipped}
+use Rattle.swd_bits.specs.Phases.{data_phase_number}
+use Rattle.swd_bits.specs.Wire.{IsDataPhaseOf}
+use Rattle.swd_port.specs.Choices.{port_flipped}
 use Rattle.swd_port.specs.Bus.{Bus, bus_word_at, bus_answer, bus_after}
 use Rattle.swd_port.specs.Port.{Port, Target, RdbuffRead, DrwRead, DrwWrite, Idle, Drives, Awaits, Live, port_register}
 use Rattle.swd_port.specs.Port.{port_request_for}

@@ -4,11 +4,12 @@ use Rattle.std.specs.Prelude.{◌==◌, ◌||◌, not, if◌then◌else◌}
 use Rattle.swd_bits.specs.declared.ack.Ack.{Ack}
 use Rattle.swd_bits.specs.declared.ack.Ack.TheVariants.{Ok as AckOk, Wait as AckWait, Fault as AckFault}
 use Rattle.swd_bits.specs.Bits.{bits_number}
-use Rattle.swd_bits.specs.Wire.{bits_of_ack}
+use Rattle.swd_bits.specs.Acks.{bits_of_ack}
 use Rattle.swd_port.specs.declared.wire.Due.TheVariants.{Lost}
 use Rattle.swd_port.specs.Port.{Register, Reset}
 use Rattle.swd_port.specs.Choices.{Mark, Clean, Wait, Flip, Deaf, Mute, IsPortMark, is_port_wait, is_port_deaf}
-use Rattle.swd_port.specs.Answers.{Reply, Okay, Waits, Faults, Silent, port_answer_by, port_may_wait, PortMayAnswer}
+use Rattle.swd_port.specs.Answers.{Reply, Okay, Waits, Faults, Silent, port_answer_by, port_may_wait}
+use Rattle.swd_port.specs.Laws.Answers.{PortMayAnswer}
 use Rattle.swd_port.specs.Answers.{port_reply_under, port_ack_driven, port_seen_at, PortSees, IsPortNoAck}
 use Rattle.swd_port.specs.Answers.{port_due_after, port_is_answered, is_exempt_register}
 

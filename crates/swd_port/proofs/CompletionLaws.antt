@@ -9,7 +9,8 @@ use Rattle.swd_port.specs.PlainMemory.{plain_address}
 use Rattle.swd_port.specs.Port.{Port, Target, Drw, TarWrite, DrwRead, DrwWrite}
 use Rattle.swd_port.specs.Choices.{Choice}
 use Rattle.swd_port.specs.Completion.{PortCompletes, port_completed, port_completion, memory_after_pending}
-use Rattle.swd_port.specs.Completion.{pending_access_at, port_tar_next_address, MayBecome}
+use Rattle.swd_port.specs.Completion.{pending_access_at, port_tar_next_address}
+use Rattle.swd_port.specs.Becoming.{MayBecome}
 use Rattle.swd_port.specs.Laws.Completion.{PortMayBecomeOfNone}
 use Rattle.swd_port.specs.Moves.{PortKept, PortWritten}
 use Rattle.swd_port.specs.Outcomes.{PortAccepts}

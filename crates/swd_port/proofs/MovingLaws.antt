@@ -3,8 +3,9 @@ use Rattle.std.proofs.Common.{◌≡◌, ◌≢◌, ◌<◌, ◌^◌, ℕ, Bool,
 use Rattle.std.specs.Prelude.{Option, Some, None, ◌==◌}
 use Rattle.swd_bits.specs.Bits.{low_bits}
 use Rattle.swd_bits.specs.Phases.{data_phase_number, data_phase_word}
-use Rattle.swd_port.specs.Phases.{port_flipped}
-use Rattle.swd_port.specs.Port.{Port, port_idle_link, Register, DrwWrite, Idle, Awaits, Drw, port_made}
+use Rattle.swd_port.specs.Choices.{port_flipped}
+use Rattle.swd_port.specs.Port.{Port, port_idle_link, Register, DrwWrite, Idle, Awaits, Drw}
+use Rattle.swd_port.specs.Made.{port_made}
 use Rattle.swd_port.specs.Choices.{Choice}
 use Rattle.swd_port.specs.Completion.{PortCompletes, port_completed}
 use Rattle.swd_port.specs.Moving.{port_bits_driven, port_after_take, port_after_pass, Arrives, Damaged, port_arrival}

@@ -8,7 +8,8 @@ use Rattle.std.proofs.Math.Nat.{pow-suc}
 use Rattle.swd_bits.specs.Bits.{low_bits}
 use Rattle.swd_bits.specs.Wire.{phase}
 use Rattle.swd_bits.specs.Phases.{data_phase_word}
-use Rattle.swd_port.specs.Phases.{port_flipped, port_flip_at, port_undriven}
+use Rattle.swd_port.specs.Choices.{port_flipped, port_undriven}
+use Rattle.swd_port.specs.Phases.{port_flip_at}
 use Rattle.swd_bits.proofs.PhaseLemmas.{data_phase_number_bits, data_phase_number_unique, no_data_phase_no_word}
 use Rattle.swd_bits.proofs.PhaseLemmas.{flipped_data_phase_no_word, data_phase_gives_word, data_phase_word_by_bits}
 use Rattle.swd_bits.proofs.PhaseLemmas.{data_phase_of_found_word, ones_data_phase_no_word}

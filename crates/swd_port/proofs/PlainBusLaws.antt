@@ -1,8 +1,9 @@
 -- Laws of a bus that is a plain memory.
 use Rattle.std.proofs.Common.{◌≡◌, ap, sym, ◌∙◌}
 use Rattle.swd_port.specs.declared.access.Access.{Access}
-use Rattle.swd_port.specs.PlainMemory.{plain_answer, plain_after}
-use Rattle.swd_port.specs.Bus.{Bus, bus_answer, bus_after, bus_of, plain_of}
+use Rattle.swd_port.specs.PlainAnswers.{plain_answer, plain_after}
+use Rattle.swd_port.specs.Bus.{Bus, bus_answer, bus_after}
+use Rattle.swd_port.specs.PlainBus.{bus_of, plain_of}
 use Rattle.swd_port.specs.PlainBus.{IsPlain}
 use Rattle.swd_port.proofs.PlainLaws.{bus_of_after, bus_of_answer}
 

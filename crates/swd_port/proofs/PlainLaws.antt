@@ -2,8 +2,10 @@
 use Rattle.std.proofs.Common.{◌≡◌, Bool, true, false, [], refl, ap}
 use Rattle.swd_port.specs.declared.access.Access.{Access}
 use Rattle.swd_port.specs.declared.access.Access.TheVariants.{Read, Write}
-use Rattle.swd_port.specs.PlainMemory.{PlainMemory, plain_after, succeeds_at, plain_address, plain_done, plain_answer}
-use Rattle.swd_port.specs.Bus.{bus_answer, bus_after, bus_log_after, bus_of}
+use Rattle.swd_port.specs.PlainMemory.{PlainMemory, plain_address}
+use Rattle.swd_port.specs.PlainAnswers.{plain_after, succeeds_at, plain_done, plain_answer}
+use Rattle.swd_port.specs.Bus.{bus_answer, bus_after, bus_log_after}
+use Rattle.swd_port.specs.PlainBus.{bus_of}
 
 -- an access at an address with a word takes effect
 pub plain_after_success : (access : Access) (m : PlainMemory) → succeeds_at (plain_address access) m ≡ true

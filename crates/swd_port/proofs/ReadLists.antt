@@ -1,7 +1,7 @@
 -- Lists of reads of words one after the other.
 use Rattle.std.proofs.Common.{◌≡◌, ◌+◌, ◌*◌, ℕ, zero, suc, refl, ap, ◌∙◌, arith, add-one, [], ◌∷◌, ◌++◌, length}
 use Rattle.swd_port.specs.declared.access.Access.TheVariants.{Read}
-use Rattle.swd_port.specs.PlainMemory.{plain_reads}
+use Rattle.swd_port.specs.PlainAnswers.{plain_reads}
 
 pub plain_reads_more : (addr count : ℕ) → plain_reads addr (suc count) ≡ plain_reads addr count
     ++ Read (addr + 4 * count) ∷ []

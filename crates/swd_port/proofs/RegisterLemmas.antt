@@ -5,7 +5,8 @@ use Rattle.std.specs.Int.RustNames.{bit_and, bit_or}
 use Rattle.std.proofs.lemmas.Nat.{and_mask, and_block, or_shifted, shr_split, pow_pos, mod_below}
 use Rattle.swd_bits.specs.Bits.{bit}
 use Rattle.swd_port.specs.declared.select.Select.{Select}
-use Rattle.swd_port.specs.Registers.{select_of, select_word, select_mask, IsSelect, csw_of, csw_word, csw_mask}
+use Rattle.swd_port.specs.Registers.{select_of, csw_of}
+use Rattle.swd_port.specs.Words.{select_word, select_mask, IsSelect, csw_word, csw_mask}
 use Rattle.swd_port.specs.Registers.{csw_read}
 use Rattle.swd_port.specs.Laws.Registers.{PortCswReads}
 

@@ -15,7 +15,7 @@ use Rattle.swd_port.specs.declared.wire.Due.{Due}
 use Rattle.swd_port.specs.declared.wire.Due.TheVariants.{Nothing}
 use Rattle.swd_port.specs.declared.access.Access.TheVariants.{Read, Write}
 use Rattle.swd_port.specs.Bus.{Bus}
-use Rattle.swd_port.specs.Phases.{port_flipped}
+use Rattle.swd_port.specs.Choices.{port_flipped}
 use Rattle.swd_port.specs.Port.{Port, Target, Register, Drw, Reads, Writes, AfterAck, Drives, Awaits, Idle}
 use Rattle.swd_port.specs.Port.{port_register, TarWrite, DrwWrite, RdbuffRead, CswRead, TarRead, ApOtherRead, DrwRead}
 use Rattle.swd_port.specs.Choices.{Mark, Clean, Wait, Flip, Deaf, Mute, IsPortMark, port_flip_of, Choice}

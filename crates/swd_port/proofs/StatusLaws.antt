@@ -7,7 +7,7 @@ use Rattle.swd_bits.specs.Bits.{bit}
 use Rattle.swd_port.specs.Registers.{register_bit, ctrl_stat_read, ctrl_stat_mask, ctrl_stat_holds}
 use Rattle.swd_port.specs.Choices.{Choice}
 use Rattle.swd_bits.specs.Phases.{data_phase_number}
-use Rattle.swd_port.specs.Phases.{port_flipped}
+use Rattle.swd_port.specs.Choices.{port_flipped}
 use Rattle.swd_port.specs.Port.{Target, Register, Drives, Drw}
 use Rattle.swd_port.specs.Asking.{is_port_posted, port_value_read, port_value_in, ctrl_stat_word_in}
 use Rattle.swd_port.specs.Asking.{port_buffer_once_read, stickyerr_once_read, pending_drw_once_read}

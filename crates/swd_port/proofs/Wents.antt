@@ -7,7 +7,7 @@ use Rattle.swd_port.specs.declared.cue.Cue.TheVariants.{Lead, Ask, Take, Give, P
 use Rattle.swd_port.specs.declared.call.Call.{Call}
 use Rattle.swd_port.specs.declared.outside.Disconnected.{Disconnected}
 use Rattle.swd_port.specs.declared.outside.Met.{Met}
-use Rattle.swd_port.specs.Stories.{is_port_send}
+use Rattle.swd_port.specs.CueKinds.{is_port_send}
 use Rattle.swd_port.specs.Transports.{PortAttempt, port_attempt, PortTransportSends, PortTransportMakes}
 use Rattle.swd_port.specs.Transports.{PortTransportMakesBy, PortTransportMade, PortTransportHas, PortTransportSteps}
 use Rattle.swd_port.specs.Transports.{PortTransportFetches}

@@ -6,9 +6,11 @@ use Rattle.swd_bits.specs.declared.request.Request.{Request}
 use Rattle.swd_bits.specs.declared.request.Reg4.{Reg4}
 use Rattle.swd_bits.specs.declared.request.Reg4.TheVariants.{R0, R4, RC}
 use Rattle.swd_port.specs.declared.access.Access.TheVariants.{Write}
-use Rattle.swd_port.specs.Bus.{Bus, bus_succeeds, bus_of}
+use Rattle.swd_port.specs.Bus.{Bus, bus_succeeds}
+use Rattle.swd_port.specs.PlainBus.{bus_of}
 use Rattle.swd_bits.specs.Phases.{data_phase_number}
-use Rattle.swd_port.specs.Port.{Port, Live, DrwWrite, port_made_target, port_made, port_register}
+use Rattle.swd_port.specs.Port.{Port, Live, DrwWrite, port_register}
+use Rattle.swd_port.specs.Made.{port_made_target, port_made}
 use Rattle.swd_port.specs.Choices.{Mark, Clean, Wait, Flip, Deaf, Mute, IsPortMark, Choice, IsPortChoice}
 use Rattle.swd_port.specs.Answers.{Okay, port_seen_at}
 use Rattle.swd_port.specs.Completion.{port_completed}

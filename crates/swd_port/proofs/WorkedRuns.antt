@@ -7,7 +7,8 @@ use Rattle.swd_port.specs.declared.wire.Due.TheVariants.{Lost}
 use Rattle.swd_port.specs.declared.access.Access.TheVariants.{Write}
 use Rattle.swd_port.specs.Bus.{Bus, bus_succeeds, bus_after}
 use Rattle.swd_bits.specs.Phases.{data_phase_number}
-use Rattle.swd_port.specs.Port.{Port, CtrlStatRead, CswRead, ApOtherRead, ApOtherWrite, Drives, port_made}
+use Rattle.swd_port.specs.Port.{Port, CtrlStatRead, CswRead, ApOtherRead, ApOtherWrite, Drives}
+use Rattle.swd_port.specs.Made.{port_made}
 use Rattle.swd_port.specs.Port.{port_register}
 use Rattle.swd_port.specs.Choices.{Clean, Wait, Choice}
 use Rattle.swd_port.specs.Answers.{port_seen_at}

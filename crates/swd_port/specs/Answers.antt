@@ -4,9 +4,9 @@
 -- "Sticky flags and DP error responses".
 pub use Rattle.swd_port.specs.declared.state.Reply.{Reply}
 pub use Rattle.swd_port.specs.declared.state.Reply.TheVariants.{Okay, Waits, Faults, Silent}
-use Rattle.std.specs.Prelude.{ℕ, ◌≡◌, ◌==◌, ◌⊎◌, ◌^◌, ◌||◌, ◌&&◌, not, Bool, true, false, if◌then◌else◌, bit_xor}
+use Rattle.std.specs.Prelude.{ℕ, ◌≡◌, ◌==◌, ◌^◌, ◌||◌, ◌&&◌, not, Bool, true, false, if◌then◌else◌, bit_xor}
 use Rattle.swd_bits.specs.Bits.{bits_number}
-use Rattle.swd_bits.specs.Wire.{bits_of_ack}
+use Rattle.swd_bits.specs.Acks.{bits_of_ack}
 use Rattle.swd_bits.specs.declared.ack.Ack.TheVariants.{Ok as AckOk, Wait as AckWait, Fault as AckFault}
 use Rattle.swd_port.specs.declared.wire.Due.{Due}
 use Rattle.swd_port.specs.declared.wire.Due.TheVariants.{Take, Give, Pass, Lost}
@@ -58,10 +58,6 @@ is_port_okay _ = false
 -- choice)
 abbrev pub port_may_wait : Register → Reply → Bool
 port_may_wait r a = is_port_okay a && not (is_exempt_register r)
-
--- the replies that are allowed: the answer, or WAIT where that may replace it
-abbrev pub PortMayAnswer : Register → Reply → Reply → Type 0
-PortMayAnswer r a reply = (reply ≡ a) ⊎ ((port_may_wait r a ≡ true) × (reply ≡ Waits))
 
 -- the reply under a mark: WAIT only at a Wait mark, and there wherever allowed; none to a request that the target
 -- doesn't see (this project's choice)

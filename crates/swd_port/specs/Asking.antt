@@ -6,13 +6,12 @@ use Rattle.std.specs.Prelude.{unwrap_or}
 use Rattle.swd_bits.specs.declared.request.Request.{Request}
 use Rattle.swd_port.specs.Registers.{ctrl_stat_read, csw_read}
 use Rattle.swd_bits.specs.Phases.{data_phase_number}
-use Rattle.swd_port.specs.Phases.{port_flipped}
+use Rattle.swd_port.specs.Choices.{port_flipped, Mark, IsPortMark, port_flip_of, port_disturbs, port_loses, Choice}
+use Rattle.swd_port.specs.Choices.{IsPortChoice, PortMayBeLate}
 use Rattle.swd_port.specs.Port.{Port, Target, PortTally, Register, DpidrRead, CtrlStatRead, ResendRead, RdbuffRead}
 use Rattle.swd_port.specs.Port.{DpOtherRead, CswRead, CswWrite, TarRead, TarWrite, DrwRead, DrwWrite, ApOtherRead}
 use Rattle.swd_port.specs.Port.{ApOtherWrite, Live, PowerUp, Late, Seen, AfterAck, Drives, Awaits, Drw, Reads}
 use Rattle.swd_port.specs.Port.{port_register}
-use Rattle.swd_port.specs.Choices.{Mark, IsPortMark, port_flip_of, port_disturbs, port_loses, Choice}
-use Rattle.swd_port.specs.Choices.{IsPortChoice, PortMayBeLate}
 use Rattle.swd_port.specs.Answers.{Reply, Okay, Waits, Faults, Silent, is_exempt_register, is_dpidr_register}
 use Rattle.swd_port.specs.Answers.{is_port_okay, is_port_power_there, is_port_unpowered, port_answer_by}
 use Rattle.swd_port.specs.Answers.{port_reply_under, port_seen_at, PortSees, port_due_after}

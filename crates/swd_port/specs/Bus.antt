@@ -1,15 +1,13 @@
 -- The bus behind the access port: whatever answers accesses, memory or registers. All of it is this project's choice;
 -- the standard leaves the memory system open.
-use Rattle.std.specs.Prelude.{ℕ, true, false, Bool, Option, Some, None, if◌then◌else◌, List, [], ◌∷◌, ◌++◌, is_some}
-use Rattle.std.specs.Prelude.{unwrap_or}
+use Rattle.std.specs.Prelude.{ℕ, true, false, Bool, Option, if◌then◌else◌, List, [], ◌∷◌, ◌++◌, is_some, unwrap_or}
 use Rattle.swd_port.specs.declared.access.Access.{Access}
 use Rattle.swd_port.specs.declared.access.Access.TheVariants.{Read, Write}
 use Rattle.swd_port.specs.declared.access.Answer.{Answer}
 use Rattle.swd_port.specs.declared.access.Answer.TheVariants.{Value, Written, BusFault}
 use Rattle.swd_port.specs.declared.access.Transfer.{Transfer}
-use Rattle.swd_port.specs.PlainMemory.{PlainMemory, plain_address, succeeds_at, plain_word_at, plain_after}
+use Rattle.swd_port.specs.PlainMemory.{PlainMemory}
 
--- ANY BUS
 -- What a bus does from now on, and the transfers that succeeded so far, the oldest first. How it answers an access may
 -- depend in any way on the accesses that it got: a status flag may change by itself, a read may have side effects, a
 -- write may be ignored. A device that changes with time is covered too: in one run each access comes after another
@@ -56,25 +54,3 @@ bus_after a b = record {
   content = λ made. b.content (a ∷ made);
   log = bus_log_after a b;
 }
-
--- A PLAIN MEMORY AS A BUS
--- the memory after these accesses, the oldest first
-abbrev pub plain_after_all : List Access → PlainMemory → PlainMemory
-plain_after_all [] m = m
-plain_after_all (a ∷ made) m = plain_after_all made (plain_after a m)
-
--- what a plain memory answers: the word at the address, if an access there succeeds
-abbrev pub plain_result : Access → PlainMemory → Option ℕ
-plain_result a m = if succeeds_at (plain_address a) m then Some (plain_word_at (plain_address a) m) else None
-
--- the bus that is this memory
-abbrev pub bus_of : PlainMemory → Bus
-bus_of m = record {
-  answers = λ made a. plain_result a (plain_after_all made m);
-  content = λ made. plain_after_all made m;
-  log = m.log;
-}
-
--- the memory that a bus is, if it is one
-abbrev pub plain_of : Bus → PlainMemory
-plain_of b = b.content []

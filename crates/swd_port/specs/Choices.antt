@@ -2,8 +2,7 @@
 -- standard leaves to a target. All of it is this project's choice.
 pub use Rattle.swd_port.specs.declared.mark.Mark.{Mark}
 pub use Rattle.swd_port.specs.declared.mark.Mark.TheVariants.{Clean, Wait, Flip, Deaf, Mute}
-use Rattle.std.specs.Prelude.{ℕ, ◌≡◌, ◌<◌, ◌^◌, Bool, true, false, Option, Some, None, List}
-use Rattle.std.specs.List.{sum_by}
+use Rattle.std.specs.Prelude.{ℕ, ◌≡◌, ◌<◌, ◌^◌, Bool, true, false, Option, Some, None, ◌-◌, bit_xor}
 
 -- the bit is one of the 33 of a data phase, or of the three of an acknowledgement
 abbrev pub IsPortMark : Mark → Type 0
@@ -38,13 +37,6 @@ port_loses Deaf = 1
 port_loses (Mute place) = 1
 port_loses _ = 0
 
--- how many of these marks disturb, and how many lose, a request
-abbrev pub port_disturbed_among : List Mark → ℕ
-port_disturbed_among marks = sum_by port_disturbs marks
-
-abbrev pub port_lost_among : List Mark → ℕ
-port_lost_among marks = sum_by port_loses marks
-
 -- what a target may choose, anew at each use
 pub record Choice : Type 0 where
   -- the address that replaces an unknown TAR
@@ -71,3 +63,12 @@ pub record IsPortChoice (c : Choice) : Type 0 where
 -- power is found late at a Wait mark alone, each for itself (this project's choice)
 abbrev pub PortMayBeLate : Mark → Choice → Type 0
 PortMayBeLate mark c = is_port_wait mark ≡ false → (c.debug_late ≡ false) × (c.system_late ≡ false)
+
+-- a phase as the other side receives it, with this bit changed, if any
+abbrev pub port_flipped : Option ℕ → ℕ → ℕ
+port_flipped None sent = sent
+port_flipped (Some place) sent = bit_xor sent (2 ^ place)
+
+-- the bits of a data phase that nobody drives: ones (this project's choice)
+abbrev pub port_undriven : ℕ
+port_undriven = 2 ^ 33 - 1

@@ -1,8 +1,8 @@
 -- The pending DRW transfer takes effect.
 -- Source: IHI 0031, MEM-AP, "DRW, Data Read/Write register", "CSW, Control/Status Word register",
 -- "Auto-incrementing the Transfer Address Register (TAR)"; and B1, "Sticky flags and DP error responses".
-use Rattle.std.specs.Prelude.{ℕ, ◌≡◌, ◌+◌, ◌%◌, ◌⊎◌, ◌||◌, not, Bool, false, if◌then◌else◌, Option}
-use Rattle.std.specs.Prelude.{Some, None, unwrap_or, nat_lt}
+use Rattle.std.specs.Prelude.{ℕ, ◌≡◌, ◌+◌, ◌%◌, ◌⊎◌, ◌||◌, not, Bool, false, if◌then◌else◌, Option, Some, None}
+use Rattle.std.specs.Prelude.{unwrap_or, nat_lt}
 use Rattle.std.specs.Option.{option_and_then}
 use Rattle.swd_port.specs.declared.access.Access.{Access}
 use Rattle.swd_port.specs.declared.access.Access.TheVariants.{Read, Write}
@@ -62,7 +62,3 @@ port_completed c s = record s { target = port_completion c s.target }
 -- the pending transfer may take effect now, or not yet (when it does is this project's choice)
 abbrev pub PortCompletes : Port → Port → Type 0
 PortCompletes s t = (t ≡ s) ⊎ ((c : Choice) × IsPortChoice c × (t ≡ port_completed c s))
-
--- the bus may become m once the pending transfer has taken effect
-abbrev pub MayBecome : Port → Bus → Type 0
-MayBecome s m = (c : Choice) × IsPortChoice c × (m ≡ (port_completed c s).target.memory)

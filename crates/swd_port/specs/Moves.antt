@@ -2,7 +2,8 @@
 -- follows from the definitions of the steps, which name the source of each rule.
 use Rattle.std.specs.Prelude.{ℕ, ◌≡◌, ◌⊎◌, ◌||◌, Bool, true, Option, Some, None}
 use Rattle.swd_port.specs.declared.wire.Due.TheVariants.{Nothing}
-use Rattle.swd_bits.specs.Phases.{data_phase_word, IsDataPhaseOf, IsNoDataPhase}
+use Rattle.swd_bits.specs.Phases.{data_phase_word}
+use Rattle.swd_bits.specs.Wire.{IsDataPhaseOf, IsNoDataPhase}
 use Rattle.swd_port.specs.Port.{Port, Target, port_idle_link, Register, Fresh}
 use Rattle.swd_port.specs.Completion.{PortCompletes}
 use Rattle.swd_port.specs.Moving.{Arrives, port_after_bits}

@@ -7,7 +7,7 @@ use Rattle.swd_port.specs.declared.wire.Due.TheVariants.{Nothing}
 use Rattle.swd_port.specs.declared.select.Select.{Select}
 use Rattle.swd_port.specs.Registers.{register_bit, select_of, csw_of}
 use Rattle.swd_bits.specs.Phases.{data_phase_word}
-use Rattle.swd_port.specs.Phases.{port_flipped, port_undriven}
+use Rattle.swd_port.specs.Choices.{port_flipped, port_undriven}
 use Rattle.swd_port.specs.Port.{Port, Target, port_idle_link, Register, AbortWrite, CtrlStatWrite, SelectWrite}
 use Rattle.swd_port.specs.Port.{CswWrite, TarWrite, DrwWrite, ApOtherWrite, PowerUp, Unseen, AfterAck, Drives, Awaits}
 use Rattle.swd_port.specs.Port.{Drw, Writes}

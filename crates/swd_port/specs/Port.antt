@@ -14,7 +14,7 @@ pub use Rattle.swd_port.specs.declared.state.Drw.{Drw}
 pub use Rattle.swd_port.specs.declared.state.Drw.TheVariants.{Reads, Writes}
 pub use Rattle.swd_port.specs.declared.state.AfterAck.{AfterAck}
 pub use Rattle.swd_port.specs.declared.state.AfterAck.TheVariants.{Idle, Drives, Awaits}
-use Rattle.std.specs.Prelude.{ℕ, ◌==◌, ◌&&◌, not, Bool, true, false, Option, Some, None, if◌then◌else◌}
+use Rattle.std.specs.Prelude.{ℕ, ◌==◌, ◌&&◌, Bool, true, false, Option, if◌then◌else◌}
 use Rattle.swd_bits.specs.declared.request.Request.{Request}
 use Rattle.swd_bits.specs.declared.request.Reg4.{Reg4}
 use Rattle.swd_bits.specs.declared.request.Reg4.TheVariants.{R0, R4, R8, RC}
@@ -22,7 +22,6 @@ use Rattle.swd_port.specs.declared.wire.Due.{Due}
 use Rattle.swd_port.specs.declared.wire.Due.TheVariants.{Nothing}
 use Rattle.swd_port.specs.declared.select.Select.{Select}
 use Rattle.swd_port.specs.Bus.{Bus}
-use Rattle.swd_port.specs.Registers.{port_select_zero}
 
 -- the debug port's registers by direction, address and whether DPBANKSEL is 0, on which address 4 alone depends
 abbrev pub port_dp_register : Bool → Reg4 → Bool → Register
@@ -86,20 +85,6 @@ port_request_for ApOtherWrite = record { ap = true; read = false; addr = R8 }
 port_request_for DrwRead = record { ap = true; read = true; addr = RC }
 port_request_for DrwWrite = record { ap = true; read = false; addr = RC }
 
--- a SELECT that reaches this register: bank 0 for CTRL/STAT, another bank for the debug port's other register at its
--- address, and bank 0 of AP 0 for its registers
-abbrev pub is_port_register_reached : Select → Register → Bool
-is_port_register_reached s CtrlStatRead = s.dpbanksel == 0
-is_port_register_reached s CtrlStatWrite = s.dpbanksel == 0
-is_port_register_reached s DpOtherRead = not (s.dpbanksel == 0)
-is_port_register_reached s CswRead = port_selects_mem_ap s
-is_port_register_reached s CswWrite = port_selects_mem_ap s
-is_port_register_reached s TarRead = port_selects_mem_ap s
-is_port_register_reached s TarWrite = port_selects_mem_ap s
-is_port_register_reached s DrwRead = port_selects_mem_ap s
-is_port_register_reached s DrwWrite = port_selects_mem_ap s
-is_port_register_reached s r = true
-
 -- The link between the host and the target.
 pub record PortLink : Type 0 where
   -- what is due next, as the host sees it
@@ -153,32 +138,3 @@ pub record Port : Type 0 where
   pub link : PortLink
   pub target : Target
   pub tally : PortTally
-
--- the target before any call, with any identification and memory (this project's choice)
-abbrev pub port_made_target : ℕ → Bus → Target
-port_made_target identification memory = record {
-  reset = Unreset;
-  sticky_error = false;
-  write_error = false;
-  read_ok = false;
-  debug_power = false;
-  system_power = false;
-  debug_up = Unseen;
-  system_up = Unseen;
-  select = port_select_zero;
-  increments = false;
-  tar = Some 0;
-  buffer = None;
-  last_returned = None;
-  pending = None;
-  identification = identification;
-  memory = memory;
-}
-
--- the state before any call (this project's choice)
-abbrev pub port_made : ℕ → Bus → Port
-port_made identification memory = record {
-  link = port_idle_link;
-  target = port_made_target identification memory;
-  tally = record { asked = 0; disturbed = 0; lost = 0 };
-}

@@ -36,15 +36,6 @@ abbrev pub is_port_ask : Cue → Bool
 is_port_ask (CueAsk request) = true
 is_port_ask cue = false
 
-abbrev pub is_port_take : Cue → Bool
-is_port_take CueTake = true
-is_port_take cue = false
-
-abbrev pub is_port_send : Cue → Bool
-is_port_send (CueAsk request) = false
-is_port_send CueTake = false
-is_port_send cue = true
-
 -- what the host did and saw is a step of the port model
 abbrev pub IsPortStep : Cue → ℕ → Port → Port → Type 0
 IsPortStep (Lead ones undriven switch zeros) seen s t = PortLeads s ones t

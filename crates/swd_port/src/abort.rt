@@ -47,7 +47,7 @@ impl Flags for Abort {
 }
 
 impl Abort {
-    ghost use Rattle.swd_port.specs.Registers.{abort_word, abort_mask};
+    ghost use Rattle.swd_port.specs.Words.{abort_word, abort_mask};
 
     /// Reads the flags from a word, bit 0 least significant. Bits that the register doesn't name are dropped.
     pub fn of(word: u32) -> Abort

@@ -1,6 +1,6 @@
 //! Accesses of a bus, their answers, and the transfers in its log.
 ghost use Rattle.std.specs.Prelude.{◌≡◌, ◌+◌, ◌*◌, ◌≤◌, ◌<◌, ◌^◌, ◌++◌, OnErr, OnOk, ℕ};
-ghost use Rattle.swd_port.specs.PlainMemory.{plain_reads};
+ghost use Rattle.swd_port.specs.PlainAnswers.{plain_reads};
 
 use std::alloc::{AllocError, Allocator};
 use std::fmt;

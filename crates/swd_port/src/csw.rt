@@ -17,7 +17,8 @@ pub struct Csw {
 }
 
 impl Csw {
-    ghost use Rattle.swd_port.specs.Registers.{csw_of, csw_word, IsCsw};
+    ghost use Rattle.swd_port.specs.Registers.{csw_of};
+    ghost use Rattle.swd_port.specs.Words.{csw_word, IsCsw};
 
     /// Reads the fields from a word. Bits that the register doesn't name are dropped.
     pub fn of(word: u32) -> Csw

@@ -72,7 +72,8 @@ impl Flags for CtrlStat {
 }
 
 impl CtrlStat {
-    ghost use Rattle.swd_port.specs.Registers.{ctrl_stat_word, ctrl_stat_mask};
+    ghost use Rattle.swd_port.specs.Registers.{ctrl_stat_mask};
+    ghost use Rattle.swd_port.specs.Words.{ctrl_stat_word};
 
     /// Reads the flags and fields from a word, bit 0 least significant. Bits that the register doesn't name are
     /// dropped.

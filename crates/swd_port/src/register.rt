@@ -1,7 +1,8 @@
 //! The registers that a request can name.
 ghost use Rattle.std.specs.Prelude.{◌≡◌, true};
 ghost use Rattle.swd_port.specs.Port.{port_register, port_register_where, port_dp_register, mem_ap_register};
-ghost use Rattle.swd_port.specs.Port.{port_request_for, is_port_register_reached};
+ghost use Rattle.swd_port.specs.Port.{port_request_for};
+ghost use Rattle.swd_port.specs.Reaching.{is_port_register_reached};
 ghost use Rattle.swd_port.specs.Answers.{is_exempt_register};
 ghost use Rattle.swd_port.specs.Asking.{is_access_port_register, is_port_posted};
 ghost use Rattle.swd_port.specs.Moving.{is_ap_write_register};

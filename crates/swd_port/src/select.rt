@@ -13,7 +13,8 @@ pub struct Select {
 }
 
 impl Select {
-    ghost use Rattle.swd_port.specs.Registers.{select_of, select_word, IsSelect};
+    ghost use Rattle.swd_port.specs.Registers.{select_of};
+    ghost use Rattle.swd_port.specs.Words.{select_word, IsSelect};
 
     /// Reads the fields from a word. Bits that the register doesn't name are dropped.
     pub fn of(word: u32) -> Select

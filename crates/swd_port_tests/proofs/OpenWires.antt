@@ -8,9 +8,10 @@ use Rattle.swd_port.specs.declared.wire.Due.TheVariants.{Nothing, Lost}
 use Rattle.swd_port.specs.declared.state.Reset.{Reset}
 use Rattle.swd_port.specs.declared.state.Reset.TheVariants.{Fresh}
 use Rattle.swd_port.specs.declared.state.AfterAck.TheVariants.{Idle}
-use Rattle.swd_port.specs.Bus.{bus_of}
-use Rattle.swd_port.specs.Port.{Port, port_made_target}
-use Rattle.swd_port.specs.Phases.{port_undriven}
+use Rattle.swd_port.specs.PlainBus.{bus_of}
+use Rattle.swd_port.specs.Port.{Port}
+use Rattle.swd_port.specs.Made.{port_made_target}
+use Rattle.swd_port.specs.Choices.{port_undriven}
 use Rattle.swd_port.specs.declared.mark.Mark.TheVariants.{Deaf}
 use Rattle.swd_port.specs.declared.cue.Cue.{Cue}
 use Rattle.swd_port.specs.declared.cue.Cue.TheVariants.{Lead, Ask, Take, Give, Pass}

@@ -6,7 +6,7 @@ use Rattle.swd_bits.specs.Wire.{bits_of_request as request_bits}
 use Rattle.swd_port.specs.declared.cue.Cue.{Cue}
 use Rattle.swd_port.specs.declared.cue.Cue.TheVariants.{Lead, Ask, Take, Give, Pass}
 use Rattle.swd_port.specs.declared.outside.Disconnected.{Disconnected}
-use Rattle.swd_port.specs.Stories.{is_port_send}
+use Rattle.swd_port.specs.CueKinds.{is_port_send}
 use Rattle.swd_sequences.specs.declared.sequence.Sequence.{Sequence}
 use Rattle.swd_sequences.specs.declared.sequence.Sequence.TheVariants.{Drive, Hold, Release, Sample}
 

@@ -11,7 +11,8 @@ use Rattle.std.proofs.lemmas.Nat.Bits.{bit_at_and, bit_at_lowest}
 use Rattle.std.proofs.lemmas.List.{append-nil, take_at}
 use lib.Count.{count_trailing_zeros}
 use Rattle.swd_bits.specs.Bits.{low_bits, bit}
-use Rattle.swd_bits.specs.Wire.{bits_of_request, bits_of_ack}
+use Rattle.swd_bits.specs.Wire.{bits_of_request}
+use Rattle.swd_bits.specs.Acks.{bits_of_ack}
 use Rattle.swd_bits.specs.declared.ack.Ack.{Ack}
 use Rattle.swd_bits.specs.declared.ack.Ack.TheVariants.{Ok as AckOk, Wait as AckWait, Fault as AckFault}
 use Rattle.swd_bits.specs.Transactions.{tx_ending_bits}

@@ -10,10 +10,10 @@ use Rattle.std.specs.Io.KnownBytes.{Appends}
 use Rattle.swd_trace.specs.declared.item.Item.{Item}
 use Rattle.swd_port.specs.declared.access.Access.{Access}
 use Rattle.swd_port.specs.declared.mark.Mark.{Mark}
-use Rattle.swd_port.specs.Choices.{port_disturbed_among, port_lost_among}
+use Rattle.swd_port.specs.MarkCounts.{port_disturbed_among, port_lost_among}
 use Rattle.swd_port.specs.Bus.{Bus}
 use Rattle.swd_port.specs.declared.call.Call.{Call}
-use Rattle.swd_port.specs.Port.{port_made}
+use Rattle.swd_port.specs.Made.{port_made}
 use Rattle.swd_port.specs.Laws.Calls.{port_with_asked}
 use Rattle.swd_port.specs.declared.wire.Wire.{Ghosts}
 use Rattle.swd_recorder.specs.declared.recorder.Recorder.{Recorder}

@@ -21,7 +21,8 @@ use Rattle.swd_port.specs.declared.wire.Due.TheVariants.{Nothing, Take, Give, Pa
 use Rattle.swd_port.specs.Answers.{IsPortNoAck, port_due_after}
 use Rattle.swd_port.specs.Asking.{PortAsks}
 use Rattle.swd_port.specs.Leading.{PortLeads}
-use Rattle.swd_port.specs.Port.{Port, port_made}
+use Rattle.swd_port.specs.Port.{Port}
+use Rattle.swd_port.specs.Made.{port_made}
 use Rattle.swd_port.specs.Stories.{IsPortSeen, IsPortStep, PortMayStep, port_due_once, is_port_ask}
 use Rattle.swd_recorder.specs.declared.in_hand.InHand.{InHand}
 use Rattle.swd_recorder.specs.Items.{recorded_ack_seen, recorded_answered, recorded_high_items, recorded_in_hand_by}

@@ -4,10 +4,11 @@ use Rattle.std.specs.Prelude.{◌↔◌}
 use Rattle.swd_trace.specs.declared.item.Item.{Item}
 use Rattle.swd_port.specs.declared.wire.Due.{Due}
 use Rattle.swd_port.specs.declared.wire.Due.TheVariants.{Nothing, Lost as DueLost}
-use Rattle.swd_port.specs.Port.{Port, port_made}
+use Rattle.swd_port.specs.Port.{Port}
+use Rattle.swd_port.specs.Made.{port_made}
 use Rattle.swd_recorder.specs.Steps.{recorded_transactions, recorded_due_count, RecordedEndsUnacknowledged}
 use Rattle.swd_port.specs.declared.mark.Mark.{Mark}
-use Rattle.swd_port.specs.Choices.{port_disturbed_among, port_lost_among}
+use Rattle.swd_port.specs.MarkCounts.{port_disturbed_among, port_lost_among}
 use Rattle.swd_host.specs.declared.outcome.End.{End}
 use Rattle.swd_host.specs.declared.outcome.End.TheVariants.{All, Lost, TriesOut, WrongId, Confused}
 use Rattle.swd_port.specs.Bus.{Bus}

@@ -7,8 +7,8 @@ use Rattle.swd_port.specs.declared.wire.Wire.{Ghosts}
 use Rattle.swd_port.specs.declared.mark.Mark.{Mark}
 use Rattle.swd_port.specs.declared.wire.Due.{Due}
 use Rattle.swd_port.specs.declared.wire.Due.TheVariants.{Nothing, Lost as DueLost}
-use Rattle.swd_port.specs.Choices.{port_disturbed_among, port_lost_among}
-use Rattle.swd_port.specs.Port.{port_made as made_port}
+use Rattle.swd_port.specs.MarkCounts.{port_disturbed_among, port_lost_among}
+use Rattle.swd_port.specs.Made.{port_made as made_port}
 use Rattle.swd_recorder.specs.Steps.{recorded_due_count}
 use Rattle.swd_host.specs.declared.outcome.End.TheVariants.{All, Lost}
 use Rattle.swd_host.specs.Reports.{IsAtRest, host_due_at_end}

@@ -10,8 +10,10 @@ use Rattle.swd_port.specs.declared.mark.Mark.{Mark}
 use Rattle.swd_port.specs.declared.wire.Due.TheVariants.{Lost as DueLost}
 use Rattle.swd_port.specs.Bus.{Bus, bus_after}
 use Rattle.swd_port.specs.Port.{Port}
-use Rattle.swd_port.specs.Choices.{Choice, IsPortChoice, port_disturbed_among, port_lost_among}
-use Rattle.swd_port.specs.Completion.{MayBecome, port_completed}
+use Rattle.swd_port.specs.Choices.{Choice, IsPortChoice}
+use Rattle.swd_port.specs.MarkCounts.{port_disturbed_among, port_lost_among}
+use Rattle.swd_port.specs.Completion.{port_completed}
+use Rattle.swd_port.specs.Becoming.{MayBecome}
 use Rattle.swd_port.proofs.CompletionLaws.{port_may_become_of_none}
 use Rattle.swd_recorder.specs.Steps.{recorded_due_count}
 use Rattle.swd_host.specs.declared.outcome.End.{End}
@@ -22,7 +24,8 @@ use Rattle.swd_host.specs.PlainRuns.{IsPlainWithRoom}
 use Rattle.swd_host.specs.Reports.{HostReport, HostEndsAt, HostIsOpen, host_due_at_end, FitsFrom, Fits, IsAtRest}
 use Rattle.swd_host.specs.Reports.{HostKnowsTarget, host_most_requests}
 use Rattle.swd_host.specs.declared.task.Bursts.{Bursts}
-use Rattle.swd_host.specs.Tasks.{bursts_limit, event_requests, resumed_bursts}
+use Rattle.swd_host.specs.Tasks.{resumed_bursts}
+use Rattle.swd_host.specs.Bursts.{bursts_limit, event_requests}
 use Rattle.swd_host.proofs.EventRequests.{event_requests_sum}
 use Rattle.swd_host.specs.Again.{Again, ResumeCloses, ResumeFits, resume_added, resume_own_report}
 use Rattle.swd_host.specs.Resuming.{host_end_is_all, resume_begun}

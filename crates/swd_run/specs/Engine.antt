@@ -12,7 +12,7 @@ use Rattle.swd_port.specs.declared.call.Call.{Call}
 use Rattle.swd_port.specs.declared.wire.Wire.{Ghosts}
 use Rattle.swd_port.specs.Leading.{port_line_awaits}
 use Rattle.swd_port.specs.Bus.{Bus}
-use Rattle.swd_port.specs.Port.{port_made}
+use Rattle.swd_port.specs.Made.{port_made}
 use Rattle.swd_observer.specs.Explained.{ObservedLog}
 use Rattle.swd_observer.specs.Runs.{Accounted}
 use Rattle.swd_observer.specs.Traces.{trace_observer_made, trace_observer_unknown, observed_in_trace}

@@ -12,7 +12,8 @@ use Rattle.swd_host.specs.Plain.{memory_after, answers_of}
 use Rattle.swd_host.specs.PlainRuns.{IsPlainWithRoom}
 use Rattle.swd_host.specs.declared.task.Bursts.{Bursts}
 use Rattle.swd_host.specs.declared.task.Bursts.TheVariants.{Writes, Reads}
-use Rattle.swd_host.specs.Tasks.{bursts_limit, resumed_bursts}
+use Rattle.swd_host.specs.Tasks.{resumed_bursts}
+use Rattle.swd_host.specs.Bursts.{bursts_limit}
 use Rattle.swd_host.specs.Reports.{HostReport, host_most_requests}
 use Rattle.swd_host.specs.Again.{Again, ResumeCloses, ResumeReportsCalls, ResumesOver}
 use Rattle.swd_host.specs.Resuming.{host_end_is_all}

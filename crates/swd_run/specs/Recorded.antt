@@ -4,7 +4,8 @@ use Rattle.swd_port.specs.declared.call.Call.{Call}
 use Rattle.swd_port.specs.declared.wire.Due.TheVariants.{Nothing}
 use Rattle.swd_port.specs.Leading.{port_line_awaits}
 use Rattle.swd_port.specs.Bus.{Bus}
-use Rattle.swd_port.specs.Port.{Port, port_made}
+use Rattle.swd_port.specs.Port.{Port}
+use Rattle.swd_port.specs.Made.{port_made}
 use Rattle.swd_port.specs.Stories.{IsPortSeen, IsPortStep, PortMayStep, port_due_once}
 use Rattle.swd_recorder.specs.Items.{recorded_items_by}
 use Rattle.swd_recorder.specs.Steps.{recorder_ask_count, recorded_transactions}

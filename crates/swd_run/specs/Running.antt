@@ -11,12 +11,13 @@ use Rattle.swd_observer.specs.Explained.{ObservedLog}
 use Rattle.swd_observer.specs.Traces.{trace_observer_made, observed_in_trace}
 use Rattle.swd_port.specs.declared.call.Call.{Call}
 use Rattle.swd_port.specs.declared.mark.Mark.{Mark}
-use Rattle.swd_port.specs.Choices.{port_disturbed_among, port_lost_among}
+use Rattle.swd_port.specs.MarkCounts.{port_disturbed_among, port_lost_among}
 use Rattle.swd_port.specs.Bus.{Bus}
 use Rattle.swd_host.specs.declared.outcome.End.{End}
 use Rattle.swd_host.specs.declared.outcome.End.TheVariants.{All, Lost, TriesOut, WrongId, Confused}
 use Rattle.swd_host.specs.declared.task.Bursts.{Bursts}
-use Rattle.swd_host.specs.Tasks.{bursts_limit, event_requests, resumed_bursts}
+use Rattle.swd_host.specs.Tasks.{resumed_bursts}
+use Rattle.swd_host.specs.Bursts.{bursts_limit, event_requests}
 use Rattle.swd_host.specs.Reports.{HostReport, FitsFrom}
 use Rattle.swd_script.specs.Scripts.{ScriptListed, ScriptMeaning, script_of}
 use Rattle.swd_script.specs.Plans.{plan_of}

@@ -1,6 +1,7 @@
 -- What stands behind the access port of a script's simulated target.
 use Rattle.std.specs.Prelude.{ℕ, [], Option, Some, None}
-use Rattle.swd_port.specs.Bus.{Bus, bus_of}
+use Rattle.swd_port.specs.Bus.{Bus}
+use Rattle.swd_port.specs.PlainBus.{bus_of}
 use Rattle.swd_port.specs.PlainMemory.{PlainMemory}
 use Rattle.swd_target.specs.MemoryWords.{target_zero_memory}
 use Rattle.swd_devices.specs.Cores.{core_made}

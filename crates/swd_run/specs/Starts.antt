@@ -6,7 +6,7 @@ use Rattle.swd_port.specs.Port.{Port}
 use Rattle.swd_host.specs.Reports.{ClosesWithin, HostIsOpen, HostReport, IsAtRest, RunFitsFrom, host_list_requests}
 use Rattle.swd_host.specs.Reports.{host_most_requests}
 use Rattle.swd_host.specs.declared.task.Bursts.{Bursts}
-use Rattle.swd_host.specs.Tasks.{bursts_limit}
+use Rattle.swd_host.specs.Bursts.{bursts_limit}
 
 -- the state in which it starts
 abbrev pub ScriptStarts : Bool → Port → Type 0

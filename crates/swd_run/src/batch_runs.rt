@@ -3,7 +3,8 @@ ghost use Rattle.std.specs.Prelude.{◌≡◌, ◌≤◌, [], IfNone, IfSome, Li
 ghost use Rattle.std.specs.Vec.{vec_capacity};
 ghost use Rattle.swd_port.specs.declared.wire.Due.TheVariants.{Nothing};
 ghost use Rattle.swd_io.specs.Blocks.{BlockBufferSends};
-ghost use Rattle.swd_host.specs.Reports.{host_report_of, host_report_to};
+ghost use Rattle.swd_host.specs.Reports.{host_report_of};
+ghost use Rattle.swd_host.specs.Fields.{host_report_to};
 ghost use Rattle.swd_script.specs.Readers.{script_batch_listed};
 ghost use Rattle.swd_script.specs.Laws.{IsScriptBatch};
 ghost use Rattle.swd_run.specs.declared.going_on.Stop.{Stop as StopType};

@@ -4,7 +4,7 @@ use Rattle.std.specs.Prelude.{Option, None, Result, Ok, Err}
 use Rattle.swd_io.specs.Pieces.{IsReaderText}
 use Rattle.swd_port.specs.declared.mark.Mark.{Mark}
 use Rattle.swd_port.specs.PlainMemory.{PlainMemory}
-use Rattle.swd_port.specs.Bus.{bus_of, plain_of}
+use Rattle.swd_port.specs.PlainBus.{bus_of, plain_of}
 use Rattle.swd_target.specs.Marks.{IsLegalPlan}
 use Rattle.swd_target.specs.MemoryWords.{target_words_from}
 use Rattle.swd_clocked.specs.Marked.{marked_clocked_state}

@@ -27,7 +27,7 @@ use Rattle.swd_script.specs.Lines.{script_lines, script_line_words}
 use Rattle.swd_script.specs.Numerals.{script_decimal_number}
 use Rattle.swd_script.specs.Plans.{plan_file_mark, plan_file_marked, plan_file_place, plan_file_line, plan_of}
 use Rattle.swd_script.specs.Plans.{plan_file_with_mark}
-use Rattle.swd_port.specs.PlainMemory.{plain_reads}
+use Rattle.swd_port.specs.PlainAnswers.{plain_reads}
 use Rattle.swd_port.proofs.ReadLists.{plain_reads_length}
 use Rattle.swd_script.specs.declared.batch.Expected.{Expected}
 use Rattle.swd_script.specs.declared.batch.Until.{Until}

@@ -4,7 +4,8 @@ use Rattle.std.specs.Prelude.{All, IfSome}
 use Rattle.std.specs.List.{list_all}
 use Rattle.swd_port.specs.declared.access.Access.{Access}
 use Rattle.swd_port.specs.declared.access.Access.TheVariants.{Read}
-use Rattle.swd_port.specs.PlainMemory.{plain_address, plain_reads}
+use Rattle.swd_port.specs.PlainMemory.{plain_address}
+use Rattle.swd_port.specs.PlainAnswers.{plain_reads}
 use Rattle.swd_script.specs.declared.batch.Until.{Until}
 use Rattle.swd_script.specs.Scripts.{ScriptListed, ScriptMeaning}
 

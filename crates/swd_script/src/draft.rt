@@ -40,7 +40,7 @@ pub struct Draft<A: Allocator> {
 
 impl<A: Allocator + Copy> Draft<A> {
     ghost use Rattle.swd_port.specs.declared.access.Access.{Access};
-    ghost use Rattle.swd_port.specs.PlainMemory.{plain_reads};
+    ghost use Rattle.swd_port.specs.PlainAnswers.{plain_reads};
     ghost use Rattle.swd_script.specs.declared.batch.Expected.{Expected as TheExpected};
     ghost use Rattle.swd_script.specs.Scripts.{script_as_block, script_as_expected, script_command_added};
     ghost use Rattle.swd_script.specs.Scripts.{script_has_calls, misplaced_script_command, script_nothing_said};

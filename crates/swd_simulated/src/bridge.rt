@@ -1,8 +1,8 @@
 //! What transports of tests share: the calls that a simulated target takes, and the story that says nothing of it.
 ghost use Rattle.std.specs.FinMap.{empty};
 ghost use Rattle.std.specs.Prelude.{[]};
-ghost use Rattle.swd_port.specs.Bus.{bus_of};
-ghost use Rattle.swd_port.specs.Port.{port_made};
+ghost use Rattle.swd_port.specs.PlainBus.{bus_of};
+ghost use Rattle.swd_port.specs.Made.{port_made};
 
 use swd_port::{Cue, Disconnected, Due, Story, Wire};
 use swd_target::{Bench, Memory};

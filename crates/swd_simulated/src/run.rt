@@ -1,8 +1,8 @@
 //! Runs of a host over a simulated target, and what has to come of them.
 ghost use Rattle.std.specs.Prelude.{◌≡◌, IfOk, IsTrue};
 ghost use Rattle.swd_port.specs.PlainMemory.{PlainMemory};
-ghost use Rattle.swd_port.specs.Bus.{bus_of};
-ghost use Rattle.swd_port.specs.Port.{port_made};
+ghost use Rattle.swd_port.specs.PlainBus.{bus_of};
+ghost use Rattle.swd_port.specs.Made.{port_made};
 ghost use Rattle.swd_target.specs.Marks.{IsLegalPlan};
 
 use crate::Simulated;

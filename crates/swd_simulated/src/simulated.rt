@@ -1,7 +1,7 @@
 //! What the tests need of a simulated target, whichever it is.
 ghost use Rattle.std.specs.Prelude.{◌≡◌, IfOk};
-ghost use Rattle.swd_port.specs.Bus.{bus_of};
-ghost use Rattle.swd_port.specs.Port.{port_made};
+ghost use Rattle.swd_port.specs.PlainBus.{bus_of};
+ghost use Rattle.swd_port.specs.Made.{port_made};
 ghost use Rattle.swd_port.specs.Choices.{Choice, IsPortChoice};
 ghost use Rattle.swd_port.specs.Completion.{port_completed};
 ghost use Rattle.swd_target.specs.Marks.{IsLegalPlan};

@@ -14,7 +14,7 @@ use Rattle.swd_host.specs.Calls.{EngineTurned, host_idle_call}
 use Rattle.swd_host.specs.Engines.{engine_outcome}
 use Rattle.swd_host.specs.Progress.{engine_calls_left, engine_state_is_of, engine_stray_left}
 use Rattle.swd_host.specs.Standing.{EngineIsOpened}
-use Rattle.swd_host.specs.Tasks.{event_requests}
+use Rattle.swd_host.specs.Bursts.{event_requests}
 use Rattle.swd_host.specs.Turns.{EngineIsNew, EngineStarts}
 use Rattle.swd_host.proofs.Folding.{engine_moves_few, engine_access_not_opened, start_access, start_left}
 use Rattle.swd_host.proofs.Folding.{engine_turn_falls, engine_turn_works}

@@ -5,7 +5,8 @@ use Rattle.std.specs.Prelude.{Option, Some, None, drop, slice_get, take}
 use Rattle.std.proofs.lemmas.Option.{slice_get_within, get_or_from_slice_get}
 use Rattle.swd_port.specs.declared.access.Access.{Access}
 use Rattle.swd_port.specs.declared.access.Access.TheVariants.{Read}
-use Rattle.swd_host.specs.Plain.{AreHostAccesses, HostAccessHasRanges, host_access_is_aligned, IsHostAccess}
+use Rattle.swd_host.specs.Plain.{AreHostAccesses, host_access_is_aligned, IsHostAccess}
+use Rattle.swd_host.specs.Accepting.{HostAccessHasRanges}
 use Rattle.swd_host.specs.Standing.{HostNextAccess}
 use Rattle.swd_host.proofs.Folding.{host_list_valid_next, host_access_valid}
 

@@ -19,7 +19,7 @@ use Rattle.swd_host.specs.Reports.{Fits, FitsFrom, HostIsOpen, HostReport, HostK
 use Rattle.swd_host.specs.Reports.{HostLeavesPowered}
 use Rattle.swd_host.specs.Resuming.{resume_report}
 use Rattle.swd_host.specs.declared.task.Bursts.{Bursts}
-use Rattle.swd_host.specs.Tasks.{bursts_limit}
+use Rattle.swd_host.specs.Bursts.{bursts_limit}
 use Rattle.swd_host.proofs.GoingOn.{resumed_take_length}
 use Rattle.swd_steps.specs.Laws.{stepped_report}
 use Rattle.swd_steps.specs.Reached.{SteppedReaches, SteppedReachesBus, SteppedRunReaches}

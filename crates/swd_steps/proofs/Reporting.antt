@@ -8,15 +8,18 @@ use Rattle.swd_port.specs.declared.access.Access.{Access}
 use Rattle.swd_port.specs.declared.access.Answer.{Answer}
 use Rattle.swd_port.specs.declared.call.Call.{Call}
 use Rattle.swd_port.specs.declared.wire.Due.TheVariants.{Nothing}
-use Rattle.swd_port.specs.Bus.{Bus, bus_of}
-use Rattle.swd_port.specs.Port.{Port, port_made}
+use Rattle.swd_port.specs.Bus.{Bus}
+use Rattle.swd_port.specs.PlainBus.{bus_of}
+use Rattle.swd_port.specs.Port.{Port}
+use Rattle.swd_port.specs.Made.{port_made}
 use Rattle.swd_port.specs.Stories.{FitsStory, port_due_by, port_at}
 use Rattle.swd_host.specs.declared.engine.Engine.{Engine}
 use Rattle.swd_host.specs.declared.outcome.End.{End}
 use Rattle.swd_host.specs.Again.{ResumeFits}
 use Rattle.swd_host.specs.Plain.{AreHostAccesses}
 use Rattle.swd_host.specs.Progress.{engine_stray_left}
-use Rattle.swd_host.specs.Reports.{Closes, IsAtRest, HostKnowsTarget, ListCloses, ListsWithin, RunFits, HostReport}
+use Rattle.swd_host.specs.Reports.{Closes, IsAtRest, HostKnowsTarget, RunFits, HostReport}
+use Rattle.swd_host.specs.OpenLists.{ListCloses, ListsWithin}
 use Rattle.swd_host.specs.Resuming.{resume_report}
 use Rattle.swd_host.specs.Sent.{HostReportsCalls}
 use Rattle.swd_host.specs.Standing.{EngineDoes, EngineIsOpened, engine_report}

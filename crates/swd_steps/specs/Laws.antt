@@ -13,11 +13,12 @@ use Rattle.swd_host.specs.declared.task.Bursts.{Bursts}
 use Rattle.swd_host.specs.Again.{ResumesOver}
 use Rattle.swd_host.specs.Fields.{engine_outcome_fields}
 use Rattle.swd_host.specs.Progress.{engine_stray_left}
-use Rattle.swd_host.specs.Reports.{Closes, ListCloses, ListsWithin, RunsWithin, HostReport}
+use Rattle.swd_host.specs.Reports.{Closes, RunsWithin, HostReport}
+use Rattle.swd_host.specs.OpenLists.{ListCloses, ListsWithin}
 use Rattle.swd_host.specs.Resuming.{resume_report}
 use Rattle.swd_host.specs.Sent.{HostReportsCalls}
 use Rattle.swd_host.specs.Standing.{engine_report}
-use Rattle.swd_host.specs.Tasks.{event_requests}
+use Rattle.swd_host.specs.Bursts.{event_requests}
 use Rattle.swd_steps.specs.declared.fields.RunFields.{RunFields}
 use Rattle.swd_steps.specs.declared.run.Run.{Run}
 use Rattle.swd_steps.specs.declared.run.Stage.TheVariants.{Ended}

@@ -6,7 +6,8 @@ use Rattle.swd_port.specs.declared.access.Answer.{Answer}
 use Rattle.swd_port.specs.declared.call.Call.{Call}
 use Rattle.swd_port.specs.declared.cue.Cue.{Cue}
 use Rattle.swd_port.specs.declared.cue.Cue.TheVariants.{Lead}
-use Rattle.swd_port.specs.Stories.{IsPortSeen, is_port_send}
+use Rattle.swd_port.specs.Stories.{IsPortSeen}
+use Rattle.swd_port.specs.CueKinds.{is_port_send}
 use Rattle.swd_host.specs.declared.engine.Engine.{Engine}
 use Rattle.swd_host.specs.declared.outcome.End.{End}
 use Rattle.swd_host.specs.declared.outcome.End.TheVariants.{All, Lost, TriesOut}

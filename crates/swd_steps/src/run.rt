@@ -9,7 +9,8 @@ ghost use Rattle.swd_host.specs.declared.task.Bursts.TheVariants.{Reads, Writes}
 ghost use Rattle.swd_host.specs.Engines.{EngineHasCue, IsEnginePhaseCue, engine_begun, engine_bursts, engine_cue};
 ghost use Rattle.swd_host.specs.Engines.{engine_is_ahead, engine_is_resting, engine_may_start, engine_outcome};
 ghost use Rattle.swd_host.specs.Engines.{engine_requests};
-ghost use Rattle.swd_host.specs.Plain.{AreHostAccesses, HostAccessHasRanges, host_access_is_aligned};
+ghost use Rattle.swd_host.specs.Plain.{AreHostAccesses, host_access_is_aligned};
+ghost use Rattle.swd_host.specs.Accepting.{HostAccessHasRanges};
 ghost use Rattle.swd_host.specs.Turns.{EngineStarts};
 ghost use Rattle.swd_steps.specs.Failing.{SteppedFails};
 ghost use Rattle.swd_steps.specs.Runs.{SteppedExtends, SteppedRefusalReason, SteppedListFits, SteppedLeaves};

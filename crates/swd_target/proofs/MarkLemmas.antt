@@ -2,7 +2,8 @@
 use Rattle.std.proofs.Common.{◌≡◌, ◌+◌, ℕ, zero, suc, true, List, [], ◌∷◌, take, refl, sym, add-one, arith}
 use Rattle.std.proofs.lemmas.List.Sums.{sum_by-cons}
 use Rattle.std.specs.List.{list_all, sum_by}
-use Rattle.swd_port.specs.Choices.{IsPortMark, port_disturbs, port_loses, port_disturbed_among, port_lost_among}
+use Rattle.swd_port.specs.Choices.{IsPortMark, port_disturbs, port_loses}
+use Rattle.swd_port.specs.MarkCounts.{port_disturbed_among, port_lost_among}
 use Rattle.swd_port.specs.declared.mark.Mark.{Mark}
 use Rattle.swd_port.specs.declared.mark.Mark.TheVariants.{Clean}
 use Rattle.swd_target.specs.Marks.{plan_mark_at, is_legal_mark, IsLegalPlan}

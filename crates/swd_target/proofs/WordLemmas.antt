@@ -12,7 +12,8 @@ use Rattle.swd_port.specs.declared.access.Transfer.{Transfer}
 use Rattle.swd_port.specs.declared.access.Access.{Access}
 use Rattle.swd_port.specs.declared.access.Access.TheVariants.{Read, Write}
 use Rattle.swd_port.specs.declared.access.Answer.TheVariants.{Value, Written, BusFault}
-use Rattle.swd_port.specs.PlainMemory.{PlainMemory, succeeds_at, plain_address, plain_answer, plain_after}
+use Rattle.swd_port.specs.PlainMemory.{PlainMemory, plain_address}
+use Rattle.swd_port.specs.PlainAnswers.{succeeds_at, plain_answer, plain_after}
 use Rattle.swd_target.specs.MemoryWords.{target_words_from, target_word_list, target_window, target_window_after}
 
 -- the word at a place, and none outside

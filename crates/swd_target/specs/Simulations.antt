@@ -20,7 +20,8 @@ use Rattle.swd_port.specs.declared.state.AfterAck.TheVariants.{Idle}
 use Rattle.swd_port.specs.declared.state.Reply.{Reply}
 use Rattle.swd_port.specs.declared.state.Reply.TheVariants.{Okay, Faults}
 use Rattle.swd_port.specs.Bus.{Bus}
-use Rattle.swd_port.specs.Port.{PortLink, Target as State, port_made_target, port_register}
+use Rattle.swd_port.specs.Port.{PortLink, Target as State, port_register}
+use Rattle.swd_port.specs.Made.{port_made_target}
 use Rattle.swd_port.specs.Choices.{Choice, port_flip_of, is_port_wait}
 use Rattle.swd_port.specs.Answers.{is_exempt_register, is_port_okay, port_seen_at, port_due_after}
 use Rattle.swd_port.specs.Completion.{port_completion, pending_fails}

@@ -1,7 +1,8 @@
 //! What stands behind a simulated access port.
 ghost use Rattle.std.specs.Prelude.{◌≡◌, []};
 ghost use Rattle.swd_port.specs.declared.access.Access.TheVariants.{Read, Write};
-ghost use Rattle.swd_port.specs.Bus.{Bus, bus_after, bus_of, bus_succeeds};
+ghost use Rattle.swd_port.specs.Bus.{Bus, bus_after, bus_succeeds};
+ghost use Rattle.swd_port.specs.PlainBus.{bus_of};
 
 use crate::memory::Memory;
 use std::alloc::Allocator;

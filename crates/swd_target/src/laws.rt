@@ -2,8 +2,9 @@
 ghost use Rattle.std.specs.Prelude.{◌≡◌, ◌≤◌, List};
 ghost use Rattle.swd_port.specs.declared.access.Access.{Access};
 ghost use Rattle.swd_port.specs.declared.access.Transfer.{Transfer};
-ghost use Rattle.swd_port.specs.Bus.{bus_after, bus_log_after, bus_of};
-ghost use Rattle.swd_port.specs.Choices.{port_disturbed_among, port_lost_among};
+ghost use Rattle.swd_port.specs.Bus.{bus_after, bus_log_after};
+ghost use Rattle.swd_port.specs.PlainBus.{bus_of};
+ghost use Rattle.swd_port.specs.MarkCounts.{port_disturbed_among, port_lost_among};
 ghost use Rattle.swd_port.specs.PlainMemory.{PlainMemory};
 ghost use Rattle.swd_target.specs.declared.bench.Bench.{Bench};
 ghost use Rattle.swd_target.specs.Benches.{bench_device, bench_port, bench_plan, bench_marks_used};

@@ -1,7 +1,7 @@
 //! The memory behind a simulated access port.
 ghost use Rattle.std.specs.Prelude.{◌≡◌, ◌≢◌, ◌↔◌, ◌+◌, ◌*◌, ◌<◌, ◌%◌, ◌^◌, IfOk, IsErrOf};
 ghost use Rattle.std.specs.FinMap.{get};
-ghost use Rattle.swd_port.specs.PlainMemory.{succeeds_at, plain_answer, plain_after};
+ghost use Rattle.swd_port.specs.PlainAnswers.{succeeds_at, plain_answer, plain_after};
 ghost use Rattle.swd_target.specs.MemoryWords.{target_zero_memory, target_window};
 
 use crate::window::Window;

@@ -1,6 +1,6 @@
 //! Data phases: the 33 bits that a target drives or awaits.
 ghost use Rattle.std.specs.Prelude.{◌≡◌, ◌<◌, ◌^◌, None};
-ghost use Rattle.swd_port.specs.Phases.{port_flipped};
+ghost use Rattle.swd_port.specs.Choices.{port_flipped};
 ghost use Rattle.swd_port.specs.Choices.{port_flip_of};
 ghost use Rattle.swd_port.specs.Asking.{port_phase_after, port_line_after};
 ghost use Rattle.swd_port.specs.Leading.{port_line_awaits};

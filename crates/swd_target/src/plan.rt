@@ -1,7 +1,8 @@
 //! The plan of a simulated wire: the marks of its requests, and how many of them were used.
 ghost use Rattle.std.specs.Prelude.{◌≡◌, ◌+◌, true, length, min, take};
 ghost use Rattle.std.specs.List.{list_all};
-ghost use Rattle.swd_port.specs.Choices.{IsPortMark, port_disturbs, port_loses, port_disturbed_among, port_lost_among};
+ghost use Rattle.swd_port.specs.Choices.{IsPortMark, port_disturbs, port_loses};
+ghost use Rattle.swd_port.specs.MarkCounts.{port_disturbed_among, port_lost_among};
 ghost use Rattle.swd_target.specs.Marks.{is_legal_mark, IsLegalPlan};
 
 use std::alloc::{Allocator, Global};

@@ -1,7 +1,7 @@
 //! The target behind a wire: a debug port with one memory access port.
 ghost use Rattle.std.specs.Prelude.{◌≡◌, ◌&&◌, ◌||◌, not, true, false};
-ghost use Rattle.swd_port.specs.Port.{port_made_target};
-ghost use Rattle.swd_port.specs.Bus.{bus_of};
+ghost use Rattle.swd_port.specs.Made.{port_made_target};
+ghost use Rattle.swd_port.specs.PlainBus.{bus_of};
 ghost use Rattle.swd_port.specs.declared.state.Reset.TheVariants.{Fresh};
 ghost use Rattle.swd_bits.specs.declared.request.Reg4.{Reg4 as Address};
 ghost use Rattle.swd_bits.specs.declared.request.Reg4.TheVariants.{R4};

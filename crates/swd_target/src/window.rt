@@ -1,7 +1,7 @@
 //! One word of a memory elsewhere.
 ghost use Rattle.std.specs.Prelude.{◌≡◌};
 ghost use Rattle.std.specs.FinMap.{get};
-ghost use Rattle.swd_port.specs.PlainMemory.{succeeds_at, plain_answer, plain_after};
+ghost use Rattle.swd_port.specs.PlainAnswers.{succeeds_at, plain_answer, plain_after};
 ghost use Rattle.swd_target.specs.MemoryWords.{target_window};
 
 use std::marker::Model;

@@ -157,8 +157,8 @@ struct Any;
 impl Story for Any {
     ghost use Rattle.std.specs.Prelude.{[]};
     ghost use Rattle.std.specs.FinMap.{empty};
-    ghost use Rattle.swd_port.specs.Bus.{bus_of};
-    ghost use Rattle.swd_port.specs.Port.{port_made};
+    ghost use Rattle.swd_port.specs.PlainBus.{bus_of};
+    ghost use Rattle.swd_port.specs.Made.{port_made};
 
     ghost at = { λ _. port_made 0 (bus_of (record { words = empty; log = []; room = 0 })) };
 }

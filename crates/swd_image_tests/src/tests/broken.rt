@@ -1,8 +1,8 @@
 //! Loads, dumps and verifications at targets that break the protocol.
 ghost use Rattle.std.specs.FinMap.{empty};
 ghost use Rattle.std.specs.Prelude.{[]};
-ghost use Rattle.swd_port.specs.Bus.{bus_of};
-ghost use Rattle.swd_port.specs.Port.{port_made};
+ghost use Rattle.swd_port.specs.PlainBus.{bus_of};
+ghost use Rattle.swd_port.specs.Made.{port_made};
 
 use super::expect::expect_eq_at;
 use super::{BASE, dump_at, load_at, verify_at};

@@ -1,8 +1,8 @@
 //! A server in memory: what a host writes moves the pins of a simulated target, and what it asks for can
 //! be read.
 ghost use Rattle.std.specs.Prelude.{◌≤◌, IfOk, IsTrue, []};
-ghost use Rattle.swd_port.specs.Bus.{bus_of};
-ghost use Rattle.swd_port.specs.Port.{port_made};
+ghost use Rattle.swd_port.specs.PlainBus.{bus_of};
+ghost use Rattle.swd_port.specs.Made.{port_made};
 ghost use Rattle.std.specs.FinMap.{empty};
 ghost use Rattle.swd_target.specs.Marks.{IsLegalPlan};
 

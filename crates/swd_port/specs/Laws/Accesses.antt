@@ -3,7 +3,7 @@ use Rattle.std.specs.Prelude.{ℕ, ◌≡◌, ◌<◌, ◌^◌, true, false}
 use Rattle.swd_port.specs.declared.access.Access.TheVariants.{Read, Write}
 use Rattle.swd_port.specs.declared.access.Answer.TheVariants.{Value}
 use Rattle.swd_port.specs.Registers.{port_select_zero}
-use Rattle.swd_bits.specs.Phases.{IsDataPhaseOf}
+use Rattle.swd_bits.specs.Wire.{IsDataPhaseOf}
 use Rattle.swd_port.specs.Bus.{Bus, bus_word_at, bus_answer, bus_after}
 use Rattle.swd_port.specs.Port.{Port, Target, Live, RdbuffRead, DrwRead, DrwWrite, port_request_for}
 use Rattle.swd_port.specs.Asking.{PortAsks, port_has_power}

@@ -1,12 +1,16 @@
 -- Laws of answers, and of what the host sees of them.
-use Rattle.std.specs.Prelude.{◌≡◌, ◌≢◌, ◌<◌, Bool, true, false}
+use Rattle.std.specs.Prelude.{◌≡◌, ◌≢◌, ◌<◌, Bool, true, false, ◌⊎◌}
 use Rattle.swd_bits.specs.declared.ack.Ack.{Ack}
 use Rattle.swd_bits.specs.Bits.{bits_number}
-use Rattle.swd_bits.specs.Wire.{bits_of_ack}
+use Rattle.swd_bits.specs.Acks.{bits_of_ack}
 use Rattle.swd_port.specs.Port.{Register, Reset}
 use Rattle.swd_port.specs.Choices.{Mark, Wait, IsPortMark, is_port_wait, is_port_deaf}
-use Rattle.swd_port.specs.Answers.{Reply, Waits, port_answer_by, port_may_wait, PortMayAnswer, port_reply_under}
+use Rattle.swd_port.specs.Answers.{Reply, Waits, port_answer_by, port_may_wait, port_reply_under}
 use Rattle.swd_port.specs.Answers.{port_ack_driven, port_seen_at}
+
+-- the replies that are allowed: the answer, or WAIT where that may replace it
+abbrev pub PortMayAnswer : Register → Reply → Reply → Type 0
+PortMayAnswer r a reply = (reply ≡ a) ⊎ ((port_may_wait r a ≡ true) × (reply ≡ Waits))
 
 -- without a request for WAIT the answer isn't WAIT
 abbrev pub PortAnswerNeverWait : Type 0

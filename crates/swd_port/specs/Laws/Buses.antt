@@ -1,8 +1,10 @@
 -- Laws of a plain memory as a bus. So whatever is proved for every bus holds for every plain memory.
 use Rattle.std.specs.Prelude.{◌≡◌}
 use Rattle.swd_port.specs.declared.access.Access.{Access}
-use Rattle.swd_port.specs.PlainMemory.{PlainMemory, plain_answer, plain_after}
-use Rattle.swd_port.specs.Bus.{bus_answer, bus_after, bus_of, plain_of}
+use Rattle.swd_port.specs.PlainMemory.{PlainMemory}
+use Rattle.swd_port.specs.PlainAnswers.{plain_answer, plain_after}
+use Rattle.swd_port.specs.Bus.{bus_answer, bus_after}
+use Rattle.swd_port.specs.PlainBus.{bus_of, plain_of}
 
 -- it answers as the memory does
 abbrev pub BusOfAnswers : Type 0

@@ -3,7 +3,7 @@ use Rattle.std.specs.Prelude.{ℕ, ◌≡◌, ◌≢◌, ◌<◌, ◌≤◌, ◌
 use Rattle.swd_bits.specs.declared.request.Request.{Request}
 use Rattle.swd_bits.specs.declared.ack.Ack.{Ack}
 use Rattle.swd_bits.specs.Bits.{bit, low_bits, bits_number}
-use Rattle.swd_bits.specs.Wire.{bits_of_ack}
+use Rattle.swd_bits.specs.Acks.{bits_of_ack}
 use Rattle.swd_port.specs.declared.wire.Due.TheVariants.{Lost}
 use Rattle.swd_port.specs.declared.cue.Cue.{Cue}
 use Rattle.swd_port.specs.Port.{Port, Seen}

@@ -2,7 +2,8 @@
 use Rattle.std.specs.Prelude.{◌≡◌, None}
 use Rattle.swd_port.specs.Port.{Port}
 use Rattle.swd_port.specs.Bus.{Bus}
-use Rattle.swd_port.specs.Completion.{PortCompletes, MayBecome}
+use Rattle.swd_port.specs.Completion.{PortCompletes}
+use Rattle.swd_port.specs.Becoming.{MayBecome}
 use Rattle.swd_port.specs.Moves.{PortKept}
 
 -- it may not have occurred yet

@@ -1,7 +1,8 @@
 -- Laws of data phases and turnarounds.
 use Rattle.std.specs.Prelude.{ℕ, ◌≡◌, ◌≢◌, ◌<◌, ◌^◌, Option, None}
-use Rattle.swd_bits.specs.Phases.{IsDataPhaseOf, data_phase_number}
-use Rattle.swd_port.specs.Phases.{port_flipped}
+use Rattle.swd_bits.specs.Phases.{data_phase_number}
+use Rattle.swd_bits.specs.Wire.{IsDataPhaseOf}
+use Rattle.swd_port.specs.Choices.{port_flipped}
 use Rattle.swd_port.specs.Port.{Port, Register, DrwWrite, Idle, Drives, Awaits}
 use Rattle.swd_port.specs.Completion.{PortCompletes}
 use Rattle.swd_port.specs.Moving.{PortTakes, PortGives, PortPasses}

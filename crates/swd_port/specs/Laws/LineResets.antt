@@ -1,7 +1,8 @@
 -- Laws of line resets and idle cycles.
 use Rattle.std.specs.Prelude.{ℕ, ◌≡◌, ◌≢◌, None}
 use Rattle.swd_port.specs.Bus.{Bus}
-use Rattle.swd_port.specs.Port.{Port, Fresh, port_made_target, port_made}
+use Rattle.swd_port.specs.Port.{Port, Fresh}
+use Rattle.swd_port.specs.Made.{port_made_target, port_made}
 use Rattle.swd_port.specs.Completion.{PortCompletes}
 use Rattle.swd_port.specs.Leading.{PortLeads}
 use Rattle.swd_port.specs.Moves.{PortPassed, PortWasReset}

@@ -2,8 +2,10 @@
 use Rattle.std.specs.Prelude.{ℕ, ◌≡◌, ◌<◌, ◌^◌, ◌↔◌, true, Some, None, replicate}
 use Rattle.swd_bits.specs.Bits.{low_bits}
 use Rattle.swd_bits.specs.Wire.{phase}
-use Rattle.swd_bits.specs.Phases.{data_phase_number, data_phase_word, IsNoDataPhase}
-use Rattle.swd_port.specs.Phases.{port_flipped, port_flip_at, port_undriven}
+use Rattle.swd_bits.specs.Phases.{data_phase_number, data_phase_word}
+use Rattle.swd_bits.specs.Wire.{IsNoDataPhase}
+use Rattle.swd_port.specs.Choices.{port_flipped, port_undriven}
+use Rattle.swd_port.specs.Phases.{port_flip_at}
 
 -- what is sent for a word is its phase
 abbrev pub PortPhaseSent : Type 0

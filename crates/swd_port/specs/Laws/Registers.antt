@@ -1,7 +1,8 @@
 -- Laws of the registers' fields: which bits of a word they keep.
 use Rattle.std.specs.Prelude.{ℕ, ◌≡◌, ◌<◌, ◌^◌, Bool, true}
 use Rattle.std.specs.Int.RustNames.{bit_and}
-use Rattle.swd_port.specs.Registers.{select_of, select_word, select_mask, csw_of, csw_word, csw_mask}
+use Rattle.swd_port.specs.Registers.{select_of, csw_of}
+use Rattle.swd_port.specs.Words.{select_word, select_mask, csw_word, csw_mask}
 use Rattle.swd_port.specs.Registers.{csw_addr_inc_of, csw_read}
 
 -- SELECT's fields keep the bits that it names, and no others

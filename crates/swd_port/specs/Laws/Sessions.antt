@@ -7,7 +7,8 @@ use Rattle.swd_port.specs.declared.cue.Cue.TheVariants.{Ask}
 use Rattle.swd_port.specs.declared.call.Call.{Call}
 use Rattle.swd_port.specs.declared.wire.Due.TheVariants.{Nothing}
 use Rattle.swd_port.specs.Bus.{Bus}
-use Rattle.swd_port.specs.Port.{Port, Drw, Writes, port_made}
+use Rattle.swd_port.specs.Port.{Port, Drw, Writes}
+use Rattle.swd_port.specs.Made.{port_made}
 use Rattle.swd_port.specs.Asking.{PortAsksNow}
 use Rattle.swd_port.specs.Choices.{Choice, Mark, IsPortMark}
 use Rattle.swd_port.specs.Completion.{PortCompletes}

@@ -2,7 +2,7 @@
 use Rattle.std.specs.Prelude.{ℕ, ◌≡◌, ◌<◌, ◌^◌, ◌&&◌, ◌⊎◌, Bool, true, false, Option, Some}
 use Rattle.swd_port.specs.Registers.{register_bit, ctrl_stat_read, ctrl_stat_holds}
 use Rattle.swd_bits.specs.Phases.{data_phase_number}
-use Rattle.swd_port.specs.Phases.{port_flipped}
+use Rattle.swd_port.specs.Choices.{port_flipped}
 use Rattle.swd_port.specs.Port.{Port, Target, Register, DpidrRead, AbortWrite, CtrlStatRead, ResendRead, Drives}
 use Rattle.swd_port.specs.Choices.{Choice}
 use Rattle.swd_port.specs.Answers.{is_exempt_register, is_port_power_there}

@@ -2,8 +2,8 @@
 //! language. The levels go in, and the characters and the report have to come out.
 ghost use Rattle.std.specs.Prelude.{[]};
 ghost use Rattle.std.specs.FinMap.{empty};
-ghost use Rattle.swd_port.specs.Bus.{bus_of};
-ghost use Rattle.swd_port.specs.Port.{port_made};
+ghost use Rattle.swd_port.specs.PlainBus.{bus_of};
+ghost use Rattle.swd_port.specs.Made.{port_made};
 
 use super::expect::{expect_eq, expect_eq_at};
 use super::recorded::UNDISTURBED;

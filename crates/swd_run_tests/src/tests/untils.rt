@@ -1,8 +1,8 @@
 //! Reads that wait for a word: of a memory that stays, and of a target whose words change.
 ghost use Rattle.std.specs.FinMap.{empty};
 ghost use Rattle.std.specs.Prelude.{[]};
-ghost use Rattle.swd_port.specs.Bus.{bus_of};
-ghost use Rattle.swd_port.specs.Port.{port_made};
+ghost use Rattle.swd_port.specs.PlainBus.{bus_of};
+ghost use Rattle.swd_port.specs.Made.{port_made};
 
 use super::expect::{expect_eq, expect_eq_at};
 use super::{limits, reported, unwritten};

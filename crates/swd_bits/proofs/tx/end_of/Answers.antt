@@ -1,6 +1,6 @@
 use Rattle.std.proofs.Common.{◌≡◌, ◌≢◌, ℕ, Bool, true, length, refl, sym, ap, ◌∙◌}
 use Rattle.swd_bits.specs.Bits.{low_bits}
-use Rattle.swd_bits.specs.Wire.{bits_of_ack}
+use Rattle.swd_bits.specs.Acks.{bits_of_ack}
 use Rattle.swd_bits.specs.BitLists.{tx_bits_of}
 use Rattle.swd_bits.specs.Transactions.{tx_ack_bits, tx_tail_bits, IsTxEnd}
 use Rattle.swd_bits.specs.declared.ack.Ack.{Ack}

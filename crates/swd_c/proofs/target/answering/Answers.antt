@@ -1,6 +1,8 @@
 use Rattle.std.proofs.Common.{◌≡◌, ℕ, Option, Some, None, ap, sym, ◌∙◌, refl}
-use Rattle.swd_port.specs.Bus.{bus_answer, bus_of}
-use Rattle.swd_port.specs.PlainMemory.{PlainMemory, plain_answer}
+use Rattle.swd_port.specs.Bus.{bus_answer}
+use Rattle.swd_port.specs.PlainBus.{bus_of}
+use Rattle.swd_port.specs.PlainMemory.{PlainMemory}
+use Rattle.swd_port.specs.PlainAnswers.{plain_answer}
 use Rattle.swd_port.specs.declared.access.Access.{Access}
 use Rattle.swd_port.specs.declared.access.Access.TheVariants.{Read, Write}
 use Rattle.swd_port.specs.declared.access.Answer.{Answer}

@@ -2,7 +2,8 @@ use Rattle.std.proofs.Common.{◌≡◌, ◌==◌, Bool, true, false, Option, Li
 use Rattle.std.proofs.Common.{arith}
 use Rattle.swd_bits.specs.Bits.{bit}
 use Rattle.swd_port.specs.PlainMemory.{PlainMemory}
-use Rattle.swd_port.specs.Bus.{Bus, bus_of}
+use Rattle.swd_port.specs.Bus.{Bus}
+use Rattle.swd_port.specs.PlainBus.{bus_of}
 use Rattle.swd_port.specs.declared.access.Transfer.{Transfer}
 use Rattle.swd_target.specs.Elsewhere.{IsUntouched, bus_itself}
 use Rattle.swd_target.specs.declared.quirks.Quirks.{Quirks}

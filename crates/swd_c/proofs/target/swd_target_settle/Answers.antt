@@ -1,5 +1,5 @@
 use Rattle.std.proofs.Common.{ap, refl, sym, ◌∙◌}
-use Rattle.swd_port.specs.Bus.{bus_of}
+use Rattle.swd_port.specs.PlainBus.{bus_of}
 use Rattle.swd_port.specs.Completion.{memory_after_pending}
 use Rattle.swd_target.specs.Elsewhere.{bus_itself}
 use Rattle.swd_target.specs.declared.quirks.Quirks.{Quirks}

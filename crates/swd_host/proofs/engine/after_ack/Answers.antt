@@ -1,7 +1,7 @@
 use Rattle.swd_host.proofs.Words.{◌≡◌, ◌<◌, ℕ, true, ap, sym, subst, low_bits, IsPortNoAck, engine_state_after_ack}
 use Rattle.swd_bits.specs.declared.ack.Ack.{Ack}
 use Rattle.swd_bits.specs.Bits.{bits_number}
-use Rattle.swd_bits.specs.Wire.{bits_of_ack}
+use Rattle.swd_bits.specs.Acks.{bits_of_ack}
 use Rattle.swd_port.proofs.CallLaws.{port_ack_seen, port_no_ack_seen}
 use Rattle.swd_host.proofs.engine.after_ack.Goals as goal
 

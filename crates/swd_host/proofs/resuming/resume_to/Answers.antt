@@ -2,7 +2,7 @@ use Rattle.swd_host.proofs.Words.{ap, ◌∙◌, ◌++◌, [], refl, subst, sym,
 use Rattle.swd_host.proofs.Words.{EnginePerforms, engine_report}
 use Rattle.std.proofs.Common.{arith}
 use Rattle.std.proofs.lemmas.List.{append-nil}
-use Rattle.swd_host.specs.Reports.{host_report_to}
+use Rattle.swd_host.specs.Fields.{host_report_to}
 use Rattle.swd_host.specs.Tasks.{resumed_bursts}
 use Rattle.swd_host.proofs.Alone.{opening_closes, list_closes}
 use Rattle.swd_host.proofs.Resumed.{resume_stops, resume_performs, resumed_equal_report, resumed_rest_slice}

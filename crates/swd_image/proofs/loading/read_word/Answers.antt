@@ -1,5 +1,5 @@
 use Rattle.std.proofs.Common.{◌≡◌, ℕ, [], ◌∷◌, List, ap, arith, get_or, length, refl, subst, sym}
-use Rattle.swd_port.specs.PlainMemory.{plain_reads}
+use Rattle.swd_port.specs.PlainAnswers.{plain_reads}
 use Rattle.swd_image.specs.Lists.{image_read_if, image_word_if}
 use Rattle.swd_image.specs.Sessions.{ReadsAs, none}
 use Rattle.swd_image.proofs.LoadLemmas.{reads_many}

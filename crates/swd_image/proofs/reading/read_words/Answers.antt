@@ -1,7 +1,7 @@
 use Rattle.std.proofs.Common.{◌≡◌, ◌∙◌, ◌+◌, ◌-◌, ◌*◌, ◌++◌, [], None, Some, ap, append_assoc, arith, refl, subst, sym}
 use Rattle.std.proofs.lemmas.List.{append-nil}
 use Rattle.std.proofs.lemmas.Result.{err_from_is_err_and}
-use Rattle.swd_port.specs.PlainMemory.{plain_reads}
+use Rattle.swd_port.specs.PlainAnswers.{plain_reads}
 use Rattle.swd_script.specs.Laws.{IsScriptBatch}
 use Rattle.swd_script.specs.Readers.{script_batch_listed}
 use Rattle.swd_image.specs.declared.fault.ImageFault.TheVariants.{Memory}

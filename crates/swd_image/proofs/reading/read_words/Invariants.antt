@@ -1,6 +1,6 @@
 use Rattle.std.proofs.Common.{◌≡◌, ◌-◌, ◌≤◌, None}
 use Rattle.swd_port.specs.declared.wire.Due.TheVariants.{Nothing}
-use Rattle.swd_port.specs.PlainMemory.{plain_reads}
+use Rattle.swd_port.specs.PlainAnswers.{plain_reads}
 use Rattle.swd_image.specs.Reports.{ReportsTo}
 use Rattle.swd_image.specs.Sessions.{ReadsAs}
 use Rattle.swd_image.proofs.reading.read_words.Given as goal

@@ -1,5 +1,5 @@
 use Rattle.std.proofs.Common.{[], refl, sym}
-use Rattle.swd_host.specs.Reports.{host_report_to}
+use Rattle.swd_host.specs.Fields.{host_report_to}
 use Rattle.swd_script.specs.Readers.{script_batch_listed}
 use Rattle.swd_image.specs.Sessions.{none}
 use Rattle.swd_image.proofs.CallLemmas.{stops_next}

@@ -1,5 +1,5 @@
 use Rattle.std.proofs.Common.{◌∙◌, None, ap, refl, subst, sym}
-use Rattle.swd_port.specs.Bus.{plain_of}
+use Rattle.swd_port.specs.PlainBus.{plain_of}
 use Rattle.swd_image_ends.specs.Pieces.{pieces_to_load}
 use Rattle.swd_image_commands.specs.Images.{command_status_compared, command_status_in, command_status_of_image}
 use Rattle.swd_image_commands.specs.Reports.{command_reports_held}

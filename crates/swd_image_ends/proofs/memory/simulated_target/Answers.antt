@@ -1,5 +1,5 @@
 use Rattle.std.proofs.Common.{◌∙◌, ◌/◌, ap, sym, subst, length}
-use Rattle.swd_port.specs.Bus.{plain_of}
+use Rattle.swd_port.specs.PlainBus.{plain_of}
 use Rattle.swd_port.specs.Port.{Port}
 use Rattle.swd_run.proofs.RunLemmas.{script_target_at_rest}
 use Rattle.swd_target.specs.Simulations.{Simulation}

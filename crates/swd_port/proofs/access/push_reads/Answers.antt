@@ -1,6 +1,6 @@
 use Rattle.std.proofs.Common.{◌+◌, ◌*◌, ◌++◌, ◌∷◌, [], append_assoc, sym, ap, ◌∙◌}
 use Rattle.swd_port.specs.declared.access.Access.TheVariants.{Read}
-use Rattle.swd_port.specs.PlainMemory.{plain_reads}
+use Rattle.swd_port.specs.PlainAnswers.{plain_reads}
 use Rattle.swd_port.proofs.ReadLists.{plain_reads_next}
 use Rattle.swd_port.proofs.access.push_reads.Goals as goal
 

@@ -1,5 +1,5 @@
 use Rattle.std.proofs.Common.{◌≡◌, ◌++◌}
-use Rattle.swd_port.specs.PlainMemory.{plain_reads}
+use Rattle.swd_port.specs.PlainAnswers.{plain_reads}
 use Rattle.swd_port.proofs.access.push_reads.Given as goal
 
 abbrev pub invariant-loop-index : goal.invariant-loop-index

@@ -2,7 +2,7 @@ use Rattle.std.proofs.Common.{◌≡◌, ◌≢◌, ℕ, ◌/◌, ◌%◌, ◌^�
 use Rattle.std.specs.Prelude.{Option, Some, None, IfNone}
 use Rattle.std.specs.Option.{is_some}
 use Rattle.swd_bits.specs.Bits.{low_bits}
-use Rattle.swd_bits.specs.Wire.{bits_of_ack}
+use Rattle.swd_bits.specs.Acks.{bits_of_ack}
 use Rattle.swd_bits.specs.declared.ack.Ack.{Ack}
 use Rattle.swd_resync.specs.Parts.{pair}
 use Rattle.swd_resync.proofs.PlaceLemmas.{no_pair_without_ack}

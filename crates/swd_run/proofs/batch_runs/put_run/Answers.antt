@@ -2,7 +2,7 @@ use Rattle.std.proofs.Common.{rules, ◌≡◌, ◌∙◌, List, [], None, Optio
 use Rattle.swd_port.specs.declared.access.Access.{Access}
 use Rattle.swd_io.specs.Blocks.{BlockBufferSends}
 use Rattle.swd_script.specs.Readers.{script_batch_listed}
-use Rattle.swd_host.specs.Reports.{host_report_to}
+use Rattle.swd_host.specs.Fields.{host_report_to}
 use Rattle.swd_run.specs.declared.going_on.Stop.{Stop}
 use Rattle.swd_run.specs.Sessions.{RunsBatchFrom, batch_bursts}
 use Rattle.swd_run.specs.Reports.{report_lines_from}

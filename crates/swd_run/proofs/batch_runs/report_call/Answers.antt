@@ -1,6 +1,7 @@
 use Rattle.std.proofs.Common.{rules, ◌≡◌, ◌∷◌, ◌++◌, [], None, false, length, refl, sym, ap, subst}
 use Rattle.std.proofs.KnownBytes.{Appends-nil}
-use Rattle.swd_host.specs.Reports.{host_report_of, host_report_to}
+use Rattle.swd_host.specs.Reports.{host_report_of}
+use Rattle.swd_host.specs.Fields.{host_report_to}
 use Rattle.swd_script.specs.Readers.{script_batch_listed}
 use Rattle.swd_run.specs.Reports.{ReportsBatchRunFrom, ReportWritesOn, report_last_line, report_lines_from, report_text}
 use Rattle.swd_run.specs.Reports.{script_run_report, report_shown_reads}

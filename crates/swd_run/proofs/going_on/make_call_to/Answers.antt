@@ -8,7 +8,7 @@ use Rattle.swd_host.specs.declared.task.Bursts.{Bursts}
 use Rattle.swd_host.specs.Again.{ResumeCloses, ResumeReportsCalls, ResumesOver}
 use Rattle.swd_host.specs.Plain.{AreHostAccesses}
 use Rattle.swd_host.specs.Sent.{HostCalls}
-use Rattle.swd_host.specs.Reports.{host_report_to}
+use Rattle.swd_host.specs.Fields.{host_report_to}
 use Rattle.swd_script.specs.Readers.{script_batch_listed}
 use Rattle.swd_run.specs.declared.going_on.Stop.{Stop}
 use Rattle.swd_run.specs.GoingOn.{ran, resumed, script_resumed_bursts, script_stop_of}

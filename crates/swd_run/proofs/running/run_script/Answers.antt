@@ -3,7 +3,7 @@ use Rattle.std.proofs.KnownBytes.{Appends-nil}
 use Rattle.std.specs.Prelude.{All as Each}
 use Rattle.swd_port.specs.declared.mark.Mark.{Mark}
 use Rattle.swd_port.specs.declared.wire.Wire.{Ghosts}
-use Rattle.swd_port.specs.Choices.{port_disturbed_among, port_lost_among}
+use Rattle.swd_port.specs.MarkCounts.{port_disturbed_among, port_lost_among}
 use Rattle.swd_target.specs.declared.bench.Bench.{Bench}
 use Rattle.swd_target.specs.Benches.{bench_plan, bench_port}
 use Rattle.swd_script.specs.Laws.{IsScriptBatch}

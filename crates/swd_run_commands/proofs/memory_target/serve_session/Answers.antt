@@ -1,6 +1,6 @@
 use Rattle.std.proofs.Common.{◌≡◌, ◌∙◌, ℕ, Result, ap, false, refl, subst, sym}
 use Rattle.swd_port.specs.PlainMemory.{PlainMemory}
-use Rattle.swd_port.specs.Bus.{bus_of, plain_of}
+use Rattle.swd_port.specs.PlainBus.{bus_of, plain_of}
 use Rattle.swd_clocked.specs.Marked.{marked_clocked_state}
 use Rattle.swd_bitbang.specs.Traces.{is_pins_trace_cut_off}
 use Rattle.swd_run_commands.specs.MemoryTargets.{IsTargetCommandStatus}

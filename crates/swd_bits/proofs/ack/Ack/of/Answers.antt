@@ -1,6 +1,6 @@
 use Rattle.std.proofs.Common.{◌≡◌, ℕ, refl, sym, ap, rules, ◌∙◌, ◌<◌, ◌^◌}
 use Rattle.swd_bits.specs.Bits.{low_bits, bits_number}
-use Rattle.swd_bits.specs.Wire.{bits_of_ack}
+use Rattle.swd_bits.specs.Acks.{bits_of_ack}
 use Rattle.swd_bits.specs.declared.ack.Ack.{Ack}
 use Rattle.swd_bits.specs.declared.ack.Ack.TheVariants.{Ok, Wait, Fault}
 use Rattle.swd_bits.proofs.BitsLemmas.{number-low_bits}

@@ -5,7 +5,7 @@ use Rattle.swd_port.specs.declared.wire.Due.{Due}
 use Rattle.swd_port.specs.declared.state.AfterAck.{AfterAck}
 use Rattle.swd_port.specs.Choices.{port_flip_of}
 use Rattle.swd_bits.specs.Phases.{data_phase_word}
-use Rattle.swd_port.specs.Phases.{port_flipped}
+use Rattle.swd_port.specs.Choices.{port_flipped}
 use Rattle.swd_port.specs.Moving.{PortGives, port_arrival, port_arrival_of}
 use Rattle.swd_target.specs.declared.plan.Plan.{Plan}
 use Rattle.swd_target.specs.Plans as plans

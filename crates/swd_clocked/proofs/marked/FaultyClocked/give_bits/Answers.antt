@@ -1,7 +1,7 @@
 use Rattle.std.proofs.Common.{◌≡◌, ◌+◌, ◌*◌, ◌/◌, ◌%◌, ◌-◌, ◌^◌, true, refl, ap, subst, ◌∙◌, arith, rules}
 use Rattle.std.specs.Prelude.{◌==◌}
 use Rattle.swd_port.specs.Choices.{port_flip_of}
-use Rattle.swd_port.specs.Phases.{port_flipped, port_undriven}
+use Rattle.swd_port.specs.Choices.{port_flipped, port_undriven}
 use Rattle.swd_clocked.specs.declared.frame.Frame.TheVariants.{Awaits}
 use Rattle.swd_clocked.specs.Frames.{frame_register, clocked_shifted}
 use Rattle.swd_clocked.proofs.Shifts.{ClockedShifts, clocked_shift_33, clocked_shift_full_33, clocked_shift_halved}

@@ -1,6 +1,6 @@
 use Rattle.std.proofs.Common.{◌≡◌, ◌+◌, ◌*◌, ◌/◌, ◌-◌, ◌^◌, None, refl, ap, subst, ◌∙◌, arith, rules}
 use Rattle.swd_port.specs.Choices.{port_flip_of}
-use Rattle.swd_port.specs.Phases.{port_flipped}
+use Rattle.swd_port.specs.Choices.{port_flipped}
 use Rattle.swd_clocked.specs.declared.frame.Frame.TheVariants.{Drives}
 use Rattle.swd_clocked.specs.Frames.{frame_bits}
 use Rattle.swd_clocked.specs.Phases.{CyclesMoveFrame}

@@ -1,6 +1,6 @@
 use Rattle.std.proofs.Common.{◌≡◌, ◌-◌, ◌*◌, ◌/◌, ◌^◌}
 use Rattle.swd_port.specs.Choices.{port_flip_of}
-use Rattle.swd_port.specs.Phases.{port_flipped}
+use Rattle.swd_port.specs.Choices.{port_flipped}
 use Rattle.swd_clocked.specs.declared.frame.Frame.TheVariants.{Drives}
 use Rattle.swd_clocked.specs.Frames.{frame_bits, cycles_counted}
 use Rattle.swd_clocked.specs.Marked.{marked_clocked_frame, marked_clocked_cycles, marked_clocked_contended}

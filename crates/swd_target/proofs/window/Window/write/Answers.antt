@@ -1,6 +1,7 @@
 use Rattle.std.proofs.Common.{◌≡◌, true, sym, ap, ◌∙◌}
 use Rattle.swd_port.specs.declared.access.Access.TheVariants.{Write}
-use Rattle.swd_port.specs.PlainMemory.{PlainMemory, succeeds_at, plain_after}
+use Rattle.swd_port.specs.PlainMemory.{PlainMemory}
+use Rattle.swd_port.specs.PlainAnswers.{succeeds_at, plain_after}
 use Rattle.swd_target.proofs.WordLemmas.{window-write}
 use Rattle.swd_target.proofs.window.Window.write.Goals as goal
 

@@ -1,6 +1,7 @@
 use Rattle.std.proofs.Common.{◌≡◌, length, sym, subst, ap, ◌∙◌, arith, false}
 use Rattle.std.specs.Prelude.{nat_lt}
-use Rattle.swd_port.specs.PlainMemory.{PlainMemory, succeeds_at}
+use Rattle.swd_port.specs.PlainMemory.{PlainMemory}
+use Rattle.swd_port.specs.PlainAnswers.{succeeds_at}
 use Rattle.swd_target.proofs.WordLemmas.{get-words_from, get-outside, succeeds-outside, succeeds-there}
 use Rattle.swd_target.proofs.words.OwnWords.is_ready.Goals as goal
 

@@ -2,7 +2,8 @@ use Rattle.std.proofs.Common.{◌≡◌, sym, subst, ap, ◌∙◌, arith, Some}
 use Rattle.std.specs.FinMap.{get}
 use Rattle.swd_port.specs.declared.access.Access.TheVariants.{Read}
 use Rattle.swd_port.specs.declared.access.Answer.TheVariants.{Value, BusFault}
-use Rattle.swd_port.specs.PlainMemory.{PlainMemory, plain_answer, plain_after}
+use Rattle.swd_port.specs.PlainMemory.{PlainMemory}
+use Rattle.swd_port.specs.PlainAnswers.{plain_answer, plain_after}
 use Rattle.swd_target.specs.MemoryWords.{target_words_from}
 use Rattle.swd_target.proofs.WordLemmas.{get-words_from, get-outside, succeeds-outside, succeeds-inside, answer-failed}
 use Rattle.swd_target.proofs.WordLemmas.{after-failed, answer-read, after-read}

@@ -1,7 +1,8 @@
 use Rattle.std.proofs.Common.{◌≡◌, subst, ap, ◌∙◌, arith}
 use Rattle.swd_port.specs.declared.access.Access.TheVariants.{Write}
 use Rattle.swd_port.specs.declared.access.Answer.TheVariants.{Written, BusFault}
-use Rattle.swd_port.specs.PlainMemory.{PlainMemory, plain_answer, plain_after}
+use Rattle.swd_port.specs.PlainMemory.{PlainMemory}
+use Rattle.swd_port.specs.PlainAnswers.{plain_answer, plain_after}
 use Rattle.swd_target.proofs.WordLemmas.{get-words_from, get-outside, succeeds-outside, succeeds-inside, answer-failed}
 use Rattle.swd_target.proofs.WordLemmas.{after-failed, answer-write, after-write, words_from-set}
 use Rattle.swd_target.proofs.words.OwnWords.write.Goals as goal
