@@ -1,5 +1,5 @@
-"""The line of pins.py over the module `gpiod` 1, which is Debian 12's python3-libgpiod. Tested over a stand-in of the module,
-not on real lines.
+"""The line of pins.py over the module `gpiod` 1, which is Debian 12's python3-libgpiod. Tested over a stand-in of the
+module, not on real lines.
 """
 import gpiod
 

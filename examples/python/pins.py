@@ -1,5 +1,5 @@
-"""A line of the package `swd`: two GPIO lines of Linux, over the module `gpiod` 2 of the Python package index. Tested over
-a stand-in of the module, not on real lines.
+"""A line of the package `swd`: two GPIO lines of Linux, over the module `gpiod` 2 of the Python package index. Tested
+over a stand-in of the module, not on real lines.
 """
 import gpiod
 from gpiod.line import Bias, Direction, Value
