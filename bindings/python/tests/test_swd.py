@@ -793,7 +793,7 @@ class Pages(unittest.TestCase):
         names = {"swd": swd, "MyProbe": lambda: line}
         printed = []
         for program in programs_of_the_page():
-            if "gpiod" in program or "swd.Core" in program:
+            if "swd.Core" in program or "swd.Probe" in program:
                 continue
             output, here = io.StringIO(), os.getcwd()
             os.chdir(os.path.join(ROOT, "examples"))
