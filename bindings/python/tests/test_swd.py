@@ -745,13 +745,16 @@ class Pages(unittest.TestCase):
         self.assertTrue(logged[-1].endswith(f" requests {report.requests}"), logged[-1])
 
     def test_gpio_lines(self):
-        """The two lines of that page, over stand-ins of both versions of their module."""
-        for word, modules_over in (("class Pins", gpio.modules_over), ("class OldPins", gpio.old_modules_over)):
+        """The two lines of examples/python, over stand-ins of both versions of their module."""
+        cases = (("pins.py", "Pins", gpio.modules_over), ("old_pins.py", "OldPins", gpio.old_modules_over))
+        for file, word, modules_over in cases:
             memory = PlainMemory(BASE, 16, 100)
             names = {}
+            with open(os.path.join(ROOT, "examples", "python", file), encoding="utf-8") as page:
+                program = page.read()
             with self.subTest(word), unittest.mock.patch.dict(sys.modules, modules_over(library_target(memory))):
-                exec(program_of_the_page(word), names)  # pylint: disable=exec-used
-                with swd.Session(names[word[6:]]("/dev/gpiochip0", gpio.SWCLK, gpio.SWDIO)) as session:
+                exec(program, names)  # pylint: disable=exec-used
+                with swd.Session(names[word]("/dev/gpiochip0", gpio.SWCLK, gpio.SWDIO)) as session:
                     session.write(BASE, WORD)
                     self.assertEqual(session.read(BASE), WORD)
                 self.assertEqual(memory.log, [("w", BASE, WORD), ("r", BASE, WORD)])
@@ -790,7 +793,7 @@ class Pages(unittest.TestCase):
         names = {"swd": swd, "MyProbe": lambda: line}
         printed = []
         for program in programs_of_the_page():
-            if "gpiod" in program or "swd.Core" in program:
+            if "swd.Core" in program or "swd.Probe" in program:
                 continue
             output, here = io.StringIO(), os.getcwd()
             os.chdir(os.path.join(ROOT, "examples"))
