@@ -2,13 +2,14 @@
 ghost use Rattle.std.specs.Prelude.{◌≤◌, ◌<◌, ◌+◌, ◌*◌, length};
 ghost use Rattle.swd_dap_probe.specs.Shapes.{dap_block_shape};
 ghost use Rattle.swd_dap_probe.specs.Packets.{DapAppends, IsDapReplyOf};
+ghost use Rattle.swd_dap_probe.specs.Transactions.{DapMakes};
 
 use crate::line::ProbeLine;
 use crate::reply::{Reply, put};
 use crate::settings::Settings;
 use crate::shape::block_count;
 use crate::transaction::{OK, RDBUFF, persist};
-use crate::transfers::{Done, read_word, request_of, word_at};
+use crate::transfers::{Done, post, read_word, request_of, word_at};
 use swd_bits::Request;
 
 // Returns the request of a read. Of the access port, the last is a read of RDBUFF.
@@ -22,16 +23,8 @@ fn read_at(request: Request, place: u16, count: u16) -> Request
     }
 }
 
-// Makes the read of the access port whose word the first read of a block returns.
-fn post<L: ProbeLine>(line: &mut L, settings: &Settings, request: Request) -> u8 {
-    if request.ap {
-        persist(line, settings, request, 0).value()
-    } else {
-        OK
-    }
-}
-
 // Reads so many words, at least one.
+#[tactic(auto, using(crate::proofs::TransactionLemmas::makes_none, crate::proofs::TransactionLemmas::makes_then))]
 fn read_block<L: ProbeLine>(
     line: &mut L,
     settings: &Settings,
@@ -42,6 +35,7 @@ fn read_block<L: ProbeLine>(
     requires { length words.old.items + 4 * count ≤ 512 }
     ensures room { length words.new.items ≤ length words.old.items + 4 * count }
     ensures count { result.count ≤ count }
+    ensures makes { DapMakes L.clocks settings.now line.old line.new }
 {
     let mut value = post(line, settings, request);
     if value != OK {
@@ -60,6 +54,7 @@ fn read_block<L: ProbeLine>(
 }
 
 // Writes so many words, at least one, and reads RDBUFF behind them.
+#[tactic(auto, using(crate::proofs::TransactionLemmas::makes_none, crate::proofs::TransactionLemmas::makes_then))]
 fn write_block<L: ProbeLine>(
     line: &mut L,
     settings: &Settings,
@@ -69,6 +64,7 @@ fn write_block<L: ProbeLine>(
 ) -> Done
     requires { 4 * count ≤ length bytes.now }
     ensures count { result.count ≤ count }
+    ensures makes { DapMakes L.clocks settings.now line.old line.new }
 {
     for place in 0..count {
         let word = word_at(bytes, 4 * usize::from(place));
@@ -87,6 +83,7 @@ fn write_block<L: ProbeLine>(
 }
 
 /// Performs `DAP_TransferBlock`.
+#[tactic(auto, using(crate::proofs::TransactionLemmas::makes_none))]
 pub(crate) fn transfer_block<L: ProbeLine>(
     line: &mut L,
     settings: &Settings,
@@ -96,6 +93,7 @@ pub(crate) fn transfer_block<L: ProbeLine>(
     requires whole { (dap_block_shape request.now).request ≤ length request.now }
     requires room { length reply.old.items + (dap_block_shape request.now).reply ≤ 512 }
     ensures told { DapAppends (IsDapReplyOf 6) (dap_block_shape request.now).reply reply.old.items reply.new.items }
+    ensures makes { DapMakes L.clocks settings.now line.old line.new }
 {
     let mut words = Reply::new();
     let count = block_count(request);

@@ -2,6 +2,7 @@
 ghost use Rattle.std.specs.Prelude.{◌≡◌, ◌≤◌, ◌<◌, ◌+◌, ◌*◌, [], length, slice_index, IfSome};
 ghost use Rattle.swd_dap_probe.specs.Plain.{dap_word};
 ghost use Rattle.swd_dap_probe.specs.Shapes.{dap_item_shape, dap_shape_by, dap_reads};
+ghost use Rattle.swd_dap_probe.specs.Transactions.{DapMakes};
 ghost use Rattle.swd_dap_probe.specs.Transfers.{dap_asked_bytes, dap_pending_bytes};
 ghost use Rattle.swd_dap_probe.specs.Packets.{DapAppends, IsDapReplyOf};
 ghost use Rattle.swd_dap_probe.specs.declared.command.Command.{Command};
@@ -107,6 +108,7 @@ pub(crate) fn read_word<L: ProbeLine>(
 ) -> u8
     requires { length words.old.items + 4 ≤ 512 }
     ensures room { length words.new.items ≤ length words.old.items + 4 }
+    ensures makes { DapMakes L.clocks settings.now line.old line.new }
 {
     let answer = persist(line, settings, request, 0);
     if let Answer::Okay(word) = answer {
@@ -115,20 +117,33 @@ pub(crate) fn read_word<L: ProbeLine>(
     answer.value()
 }
 
+/// Makes a read if it is one of the access port. The read behind it returns its word. Returns how it was answered.
+#[tactic(auto, using(crate::proofs::TransactionLemmas::makes_none))]
+pub(crate) fn post<L: ProbeLine>(line: &mut L, settings: &Settings, request: Request) -> u8
+    ensures makes { DapMakes L.clocks settings.now line.old line.new }
+{
+    if request.ap {
+        persist(line, settings, request, 0).value()
+    } else {
+        OK
+    }
+}
+
 // Makes a read until its word matches, and one read before of the access port, whose reads return the word of the one
 // before.
+#[tactic(auto, using(crate::proofs::TransactionLemmas::makes_none, crate::proofs::TransactionLemmas::makes_then))]
 fn seek<L: ProbeLine>(
     line: &mut L,
     settings: &Settings,
     mask: u32,
     request: Request,
     wanted: u32,
-) -> u8 {
-    if request.ap {
-        let value = persist(line, settings, request, 0).value();
-        if value != OK {
-            return value;
-        }
+) -> u8
+    ensures makes { DapMakes L.clocks settings.now line.old line.new }
+{
+    let value = post(line, settings, request);
+    if value != OK {
+        return value;
     }
     for place in 0..u32::from(settings.matches) + 1 {
         match persist(line, settings, request, 0) {
@@ -155,10 +170,12 @@ fn pending_behind(value: u8, then: Pending) -> Pending
 }
 
 // Fetches the word of a read that was made before, if there is one.
+#[tactic(auto, using(crate::proofs::TransactionLemmas::makes_none))]
 fn fetch<L: ProbeLine>(line: &mut L, settings: &Settings, run: &mut Run, words: &mut Reply) -> u8
     requires { length words.old.items + dap_pending_bytes run.old.pending ≤ 512 }
     ensures none { dap_pending_bytes run.new.pending ≡ 0 }
     ensures room { length words.new.items ≤ length words.old.items + dap_pending_bytes run.old.pending }
+    ensures makes { DapMakes L.clocks settings.now line.old line.new }
 {
     match run.pending {
         Pending::Word => {
@@ -170,6 +187,7 @@ fn fetch<L: ProbeLine>(line: &mut L, settings: &Settings, run: &mut Run, words: 
 }
 
 // Performs a request, behind which no word is left of an earlier one.
+#[tactic(auto, using(crate::proofs::TransactionLemmas::makes_none))]
 fn perform<L: ProbeLine>(
     line: &mut L,
     settings: &Settings,
@@ -181,6 +199,7 @@ fn perform<L: ProbeLine>(
     requires room { length words.old.items + dap_asked_bytes asked ≤ 512 }
     ensures room { length words.new.items + dap_pending_bytes run.new.pending
         ≤ length words.old.items + dap_asked_bytes asked }
+    ensures makes { DapMakes L.clocks settings.now line.old line.new }
 {
     match asked {
         Asked::Mask(word) => {
@@ -219,6 +238,7 @@ fn read_again(pending: Pending, asked: Asked) -> Option<Request>
 }
 
 // Fetches the word of a read that was made before, if there is one, and performs a request if that was OK.
+#[tactic(auto, using(crate::proofs::TransactionLemmas::makes_then))]
 fn fetch_and_perform<L: ProbeLine>(
     line: &mut L,
     settings: &Settings,
@@ -227,8 +247,9 @@ fn fetch_and_perform<L: ProbeLine>(
     words: &mut Reply,
 ) -> u8
     requires { length words.old.items + dap_pending_bytes run.old.pending + dap_asked_bytes asked ≤ 512 }
-    ensures { length words.new.items + dap_pending_bytes run.new.pending
+    ensures room { length words.new.items + dap_pending_bytes run.new.pending
         ≤ length words.old.items + dap_pending_bytes run.old.pending + dap_asked_bytes asked }
+    ensures makes { DapMakes L.clocks settings.now line.old line.new }
 {
     let value = fetch(line, settings, run, words);
     if value == OK {
@@ -247,8 +268,9 @@ fn next<L: ProbeLine>(
     words: &mut Reply,
 ) -> u8
     requires { length words.old.items + dap_pending_bytes run.old.pending + dap_asked_bytes asked ≤ 512 }
-    ensures { length words.new.items + dap_pending_bytes run.new.pending
+    ensures room { length words.new.items + dap_pending_bytes run.new.pending
         ≤ length words.old.items + dap_pending_bytes run.old.pending + dap_asked_bytes asked }
+    ensures makes { DapMakes L.clocks settings.now line.old line.new }
 {
     match read_again(run.pending, asked) {
         Some(request) => read_word(line, settings, request, words),
@@ -257,6 +279,7 @@ fn next<L: ProbeLine>(
 }
 
 // Makes the read that is pending behind the last request.
+#[tactic(auto, using(crate::proofs::TransactionLemmas::makes_none))]
 fn finish<L: ProbeLine>(
     line: &mut L,
     settings: &Settings,
@@ -265,6 +288,7 @@ fn finish<L: ProbeLine>(
 ) -> u8
     requires { length words.old.items + dap_pending_bytes pending ≤ 512 }
     ensures room { length words.new.items ≤ length words.old.items + dap_pending_bytes pending }
+    ensures makes { DapMakes L.clocks settings.now line.old line.new }
 {
     match pending {
         Pending::Nothing => OK,
@@ -274,6 +298,7 @@ fn finish<L: ProbeLine>(
 }
 
 // Performs requests up to the first that isn't OK.
+#[tactic(auto, using(crate::proofs::TransactionLemmas::makes_none, crate::proofs::TransactionLemmas::makes_then))]
 fn perform_all<L: ProbeLine>(
     line: &mut L,
     settings: &Settings,
@@ -289,6 +314,7 @@ fn perform_all<L: ProbeLine>(
     ensures room { 3 + length words.new.items
         ≤ (dap_shape_by Command.Transfer request.now).reply }
     ensures count { result.count ≤ slice_index request.now 2 }
+    ensures makes { DapMakes L.clocks settings.now line.old line.new }
 {
     let mut run = Run {
         mask: *mask,
@@ -331,6 +357,7 @@ pub(crate) fn transfer<L: ProbeLine>(
     ensures told { DapAppends (IsDapReplyOf 5)
         (dap_shape_by Command.Transfer request.now).reply
         reply.old.items reply.new.items }
+    ensures makes { DapMakes L.clocks settings.now line.old line.new }
 {
     let mut words = Reply::new();
     let done = perform_all(line, settings, mask, request, &mut words);
