@@ -40,4 +40,5 @@ pub mod MovedLemmas
 pub mod LostLemmas
 pub mod LinkLemmas
 pub mod FittingLemmas
+pub mod KnowingLemmas
 pub mod BeginsLemmas

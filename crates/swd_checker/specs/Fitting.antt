@@ -1,5 +1,6 @@
 -- Runs of the port model that show the items of a trace: the other half of the theorem.
-use Rattle.std.specs.Prelude.{ℕ, ◌≡◌, ◌<◌, ◌≤◌, ◌+◌, ◌++◌, ◌∷◌, [], Bool, true, false, List, Some, None, All, length}
+use Rattle.std.specs.Prelude.{ℕ, ◌≡◌, ◌⊎◌, ◌<◌, ◌≤◌, ◌+◌, ◌++◌, ◌∷◌, [], Bool, true, false, List, Some, None, All}
+use Rattle.std.specs.Prelude.{length}
 use Rattle.std.specs.Prelude.{take, drop}
 use Rattle.swd_bits.specs.declared.tx.Tx.{Tx as Transaction}
 use Rattle.swd_trace.specs.declared.item.Item.{Item}
@@ -9,13 +10,17 @@ use Rattle.swd_port.specs.Port.{Port}
 use Rattle.swd_checker.specs.declared.checker.CheckStart.{CheckStart}
 use Rattle.swd_checker.specs.declared.checker.CheckStart.TheVariants.{Made, Any}
 use Rattle.swd_checker.specs.declared.checker.Checker.{Checker}
+use Rattle.swd_checker.specs.declared.opening.Opening.{Opening}
 use Rattle.swd_checker.specs.declared.opening.Opening.TheVariants.{Over}
+use Rattle.swd_checker.specs.declared.rule.Rule.{Rule}
 use Rattle.swd_checker.specs.declared.worlds.Worlds.{Worlds}
 use Rattle.swd_checker.specs.Worlds.{World}
 use Rattle.swd_checker.specs.Exact.{WorldWords, CheckedAnswers, IsWorldExact, IsWorldSound, IsWorldPort}
 use Rattle.swd_checker.specs.Reaching.{CheckedLink, LinkSteps, WorldsReach, AreKeptSound, IsWordSound, IsDpidrWord}
 use Rattle.swd_checker.specs.Standing.{CheckedGap, CheckedStarts, CheckedRuns, checker_gap, checked_gap_none}
 use Rattle.swd_checker.specs.Standing.{checked_gap_after, checked_gap_over}
+use Rattle.swd_checker.specs.Openings.{is_opening_over}
+use Rattle.swd_checker.specs.Knowing.{CheckedFrom, AreOpeningUnknown, opening_of_start, opening_over_items}
 use Rattle.swd_checker.specs.Whole.{IsShownByNoRun}
 
 -- where a run begins that shows what a checker of this start watched from the place at which its check began: in the
@@ -87,6 +92,26 @@ pub record CheckerBeginsBy (item : Item) (place : ℕ) (c now : Checker) : Type 
   pub opens : now.crowded ≡ None → now.broken ≡ None → c.began ≡ None → (p : ℕ) → now.began ≡ Some p → (p ≡ place)
       × (IsLegalItem item → IsWordSound c.identification.word → CheckerShows Any (item ∷ []) now)
 
+-- what is known of the target before its worlds are held, once it is this: until it is enough, no check begins
+pub record CheckerKnows (after : Opening) (c now : Checker) : Type 0 where
+  pub begun : (p : ℕ) → c.began ≡ Some p → now.began ≡ Some p
+  pub waits : now.began ≡ None → is_opening_over c.opening ≡ false
+      → (now.opening ≡ after) × (is_opening_over after ≡ false)
+  pub begins : c.began ≡ None → is_opening_over c.opening ≡ false → (p : ℕ) → now.began ≡ Some p
+      → is_opening_over after ≡ true
+
+-- What is known where no check of these items began: too little, by each of them.
+pub record CheckerWaits (start : CheckStart) (items : List Item) (c : Checker) : Type 0 where
+  pub unknown : AreOpeningUnknown items checked_gap_none (opening_of_start start)
+  pub opening : c.opening ≡ opening_over_items items checked_gap_none (opening_of_start start)
+
+-- An item at this place, by what is noted of it: the first broken rule, and the first place at which there were more
+-- worlds than are held.
+pub record CheckerNotes (place : ℕ) (c now : Checker) : Type 0 where
+  pub broken : (b : ℕ × Rule) → now.broken ≡ Some b → (c.broken ≡ Some b) ⊎ (b.0 ≡ place)
+  pub crowded : (p : ℕ) → now.crowded ≡ Some p → (c.crowded ≡ Some p) ⊎ (p ≡ place)
+  pub kept : (p : ℕ) → c.crowded ≡ Some p → now.crowded ≡ Some p
+
 -- a checker before the first item, by the place at which its check begins
 pub record CheckerFirst (start : CheckStart) (c : Checker) : Type 0 where
   pub uncrowded : c.crowded ≡ None
@@ -115,13 +140,13 @@ pub record IsLongestShown (clean : Bool) (items : List Item) (count : ℕ) : Typ
       → AreShownByRun Made clean (take count items)
   pub longest : count < length items → IsShownByNoRun Made clean (take (count + 1) items)
 
--- THE THEOREM. Of a target in any state: some run of the port model shows the items from the one at `from` up to
--- `count`, from the reset state if that was the start and else from some state, if no bits hide a part of the session.
--- No run from the start shows the items up to `count` and one more.
+-- THE THEOREM. Of a target in any state: `from` is the first item by which its state is known, and some run of the port
+-- model shows the items from that one up to `count`, from the reset state if that was the start and else from some
+-- state, if no bits hide a part of the session. No run from the start shows the items up to `count` and one more.
 pub record IsLongestShownFrom (start : CheckStart) (clean : Bool) (items : List Item) (from count : ℕ) : Type 0 where
   pub before : from ≤ count
   pub inside : count ≤ length items
-  pub made : start ≡ Made → from ≡ 0
+  pub first : CheckedFrom start (take from items) (drop from (take count items))
   pub shown : AreLegalItems items → AreGapless checked_gap_none (drop from (take count items))
       → AreShownByRun start clean (drop from (take count items))
   pub longest : count < length items → IsShownByNoRun start clean (take (count + 1) items)

@@ -11,6 +11,7 @@ pub mod StepLaws
 pub mod Laws
 pub mod Openings
 pub mod Standing
+pub mod Knowing
 pub mod Whole
 pub mod Shown
 pub mod Fields

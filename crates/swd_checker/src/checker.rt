@@ -1,6 +1,6 @@
 //! The checker of a trace.
 
-ghost use Rattle.std.specs.Prelude.{ℕ, ◌≡◌, ◌≤◌, Bool, true, false, None, is_some, length};
+ghost use Rattle.std.specs.Prelude.{ℕ, ◌≡◌, ◌≤◌, Bool, true, false, Some, None, is_some, length};
 ghost use Rattle.swd_bits.specs.Transactions.{IsTx};
 ghost use Rattle.arrayvec.specs.ArrayVec.{array_vec_len};
 ghost use Rattle.swd_port.specs.Port.{Port};
@@ -13,7 +13,8 @@ ghost use Rattle.swd_checker.specs.Standing.{CheckerKeeps, CheckerKeepsWorlds, C
 ghost use Rattle.swd_checker.specs.Standing.{checker_gap, checked_gap_none, checked_stray_after};
 ghost use Rattle.swd_checker.specs.Standing.{checked_verdict, is_checked_broken};
 ghost use Rattle.swd_checker.specs.Fitting.{CheckerBegins, CheckerFollows, CheckerStays, CheckerSettles, CheckerSteps};
-ghost use Rattle.swd_checker.specs.Fitting.{CheckerFirst, CheckerOpens, CheckerBeginsBy};
+ghost use Rattle.swd_checker.specs.Fitting.{CheckerFirst, CheckerOpens, CheckerBeginsBy, CheckerKnows, CheckerNotes};
+ghost use Rattle.swd_checker.specs.Knowing.{opening_after_item, opening_after_tx, opening_of_start};
 ghost use Rattle.swd_checker.specs.Reaching.{IdentificationNarrows};
 
 mod fields;
@@ -98,6 +99,8 @@ impl Checker {
         ensures starts { CheckerStarts start clean result }
         ensures begins { start ≡ CheckStart.Made → CheckerBegins result }
         ensures first { CheckerFirst start result }
+        ensures known { result.opening ≡ opening_of_start start }
+        ensures unbegun { (start ≡ CheckStart.Made → ⊥) → result.began ≡ None }
     {
         match start {
             CheckStart::Made => {
@@ -142,6 +145,9 @@ impl Checker {
         ensures watches { CheckerWatches item.now self.old self.new }
         ensures follows { CheckerFollows item.now self.old self.new }
         ensures begins { CheckerBeginsBy item.now place self.old self.new }
+        ensures knows { self.old.broken ≡ None
+            → CheckerKnows (opening_after_item item.now (checker_gap self.old) self.old.opening) self.old self.new }
+        ensures notes { CheckerNotes place self.old self.new }
         ensures ended { is_some self.old.broken ≡ true → self.new ≡ self.old }
     {
         if self.broken.is_none() {
@@ -152,6 +158,7 @@ impl Checker {
     /// Leaves the model up to the next line reset: nothing before it is checked. It is no gap that is counted.
     pub fn leave(&mut self)
         ensures leaves { CheckerLeaves self.old self.new }
+        ensures opening { self.new.opening ≡ Opening.Anything }
         ensures crowded { self.new.crowded ≡ self.old.crowded }
         ensures began { self.new.began ≡ self.old.began }
         ensures known { self.new.identification ≡ self.old.identification }
@@ -210,6 +217,9 @@ impl Checker {
         ensures watches { CheckerWatches item.now self.old self.new }
         ensures follows { CheckerFollows item.now self.old self.new }
         ensures begins { CheckerBeginsBy item.now place self.old self.new }
+        ensures knows { CheckerKnows (opening_after_item item.now (checker_gap self.old) self.old.opening) self.old
+            self.new }
+        ensures notes { CheckerNotes place self.old self.new }
     {
         match *item {
             Item::Junk(_) => self.skip(),
@@ -225,6 +235,9 @@ impl Checker {
         ensures watches { CheckerWatches (Item.Tx tx.now) self.old self.new }
         ensures follows { CheckerFollows (Item.Tx tx.now) self.old self.new }
         ensures begins { CheckerBeginsBy (Item.Tx tx.now) place self.old self.new }
+        ensures knows { CheckerKnows (opening_after_item (Item.Tx tx.now) (checker_gap self.old) self.old.opening)
+            self.old self.new }
+        ensures notes { CheckerNotes place self.old self.new }
     {
         if !self.in_gap {
             self.transact(tx, place);
@@ -235,6 +248,10 @@ impl Checker {
     fn skip(&mut self)
         ensures watches { (b : Bool) → CheckerWatches (Item.Junk b) self.old self.new }
         ensures follows { (b : Bool) → CheckerFollows (Item.Junk b) self.old self.new }
+        ensures knows { (b : Bool)
+            → CheckerKnows (opening_after_item (Item.Junk b) (checker_gap self.old) self.old.opening) self.old
+            self.new }
+        ensures crowded { self.new.crowded ≡ self.old.crowded }
         ensures began { self.new.began ≡ self.old.began }
         ensures known { self.new.identification ≡ self.old.identification }
     {
@@ -248,6 +265,9 @@ impl Checker {
     // Begins a gap, if none has begun.
     fn begin_gap(&mut self)
         ensures watches { self.old.stray ≡ 0 → (b : Bool) → CheckerWatches (Item.Junk b) self.old self.new }
+        ensures knows { self.old.stray ≡ 0 → (b : Bool)
+            → CheckerKnows (opening_after_item (Item.Junk b) (checker_gap self.old) self.old.opening) self.old
+                self.new }
         ensures crowded { self.new.crowded ≡ self.old.crowded }
         ensures began { self.new.began ≡ self.old.began }
         ensures known { self.new.identification ≡ self.old.identification }
@@ -276,6 +296,8 @@ impl Checker {
     fn reset(&mut self)
         ensures watches { (ones : ℕ) → CheckerWatches (Item.Reset ones) self.old self.new }
         ensures follows { (ones : ℕ) → CheckerFollows (Item.Reset ones) self.old self.new }
+        ensures opening { self.new.opening ≡ self.old.opening }
+        ensures crowded { self.new.crowded ≡ self.old.crowded }
         ensures began { self.new.began ≡ self.old.began }
         ensures known { self.new.identification ≡ self.old.identification }
     {
@@ -289,6 +311,9 @@ impl Checker {
         ensures watches { self.old.in_gap ≡ false → CheckerWatches (Item.Tx tx.now) self.old self.new }
         ensures follows { self.old.in_gap ≡ false → CheckerFollows (Item.Tx tx.now) self.old self.new }
         ensures begins { self.old.in_gap ≡ false → CheckerBeginsBy (Item.Tx tx.now) place self.old self.new }
+        ensures knows { CheckerKnows (opening_after_tx self.old.opening tx.now.result tx.now.request) self.old
+            self.new }
+        ensures notes { CheckerNotes place self.old self.new }
     {
         self.stray = stray_after(tx.result);
         self.check(tx, place);
@@ -301,6 +326,9 @@ impl Checker {
         ensures checks { CheckerChecks tx.now self.old self.new }
         ensures steps { CheckerSteps tx.now self.old self.new }
         ensures opens { CheckerOpens tx.now place self.old self.new }
+        ensures knows { CheckerKnows (opening_after_tx self.old.opening tx.now.result tx.now.request) self.old
+            self.new }
+        ensures notes { CheckerNotes place self.old self.new }
     {
         if self.opening.is_over() {
             self.step(tx, place);
@@ -316,6 +344,9 @@ impl Checker {
         ensures checks { (self.old.opening ≡ Opening.Over → ⊥) → CheckerChecks tx.now self.old self.new }
         ensures stays { CheckerStays self.old self.new }
         ensures opens { CheckerOpens tx.now place self.old self.new }
+        ensures knows { CheckerKnows (opening_after_tx self.old.opening tx.now.result tx.now.request) self.old
+            self.new }
+        ensures notes { CheckerNotes place self.old self.new }
     {
         if self.worlds.begin(self.opening, tx) {
             self.opening = Opening::Over;
@@ -331,6 +362,8 @@ impl Checker {
         ensures keeps { CheckerKeeps self.old self.new }
         ensures checks { self.old.opening ≡ Opening.Over → CheckerChecks tx.now self.old self.new }
         ensures steps { CheckerSteps tx.now self.old self.new }
+        ensures notes { CheckerNotes place self.old self.new }
+        ensures began { self.new.began ≡ self.old.began }
     {
         let count = self.worlds.kept.len();
         if count <= 1 {
@@ -350,6 +383,8 @@ impl Checker {
         ensures keeps { CheckerKeeps self.old self.new }
         ensures checks { self.old.opening ≡ Opening.Over → CheckerChecks tx.now self.old self.new }
         ensures steps { CheckerSteps tx.now self.old self.new }
+        ensures notes { CheckerNotes place self.old self.new }
+        ensures began { self.new.began ≡ self.old.began }
     {
         let before: ArrayVec<Kept, MOST> = copy_of(self.worlds.kept.as_slice());
         self.worlds.empty();
@@ -364,6 +399,8 @@ impl Checker {
         ensures settles { (t : Port) → self.old.opening ≡ Opening.Over → WorldsHoldPort self.old.worlds t
             → OpeningHolds self.new.opening self.new.worlds t × (self.new.broken ≡ self.old.broken) }
         ensures left { CheckerSettles self.old self.new }
+        ensures notes { CheckerNotes place self.old self.new }
+        ensures began { self.new.began ≡ self.old.began }
     {
         if self.worlds.crowded {
             self.worlds.restore(before);
@@ -380,6 +417,8 @@ impl Checker {
         ensures opening { self.new.opening ≡ Opening.Anything }
         ensures broken { self.new.broken ≡ self.old.broken }
         ensures crowded { self.new.crowded ≡ None → ⊥ }
+        ensures notes { CheckerNotes place self.old self.new }
+        ensures began { self.new.began ≡ self.old.began }
     {
         self.crowded = self.crowded.or(Some(place));
         self.forget();
@@ -422,6 +461,7 @@ impl Checker {
         ensures crowded { self.new.crowded ≡ self.old.crowded }
         ensures began { self.new.began ≡ self.old.began }
         ensures unbroken { self.new.broken ≡ None → self.old.broken ≡ None }
+        ensures notes { CheckerNotes place self.old self.new }
         ensures keeps { CheckerKeepsWorlds self.old self.new }
     {
         if self.identification.narrow(tx) {

@@ -11,6 +11,8 @@ ghost use Rattle.swd_checker.specs.Reaching.{AreKeptSound};
 ghost use Rattle.swd_checker.specs.Openings.{OpeningLeads, WorldsOpen, IsOpenedAtStatus, IsOpenedAtOkay, world_unknown};
 ghost use Rattle.swd_checker.specs.Openings.{checked_passes, checked_may_be_refused, checked_leaves_rest};
 ghost use Rattle.swd_checker.specs.Openings.{checked_reads_status, checked_selects, is_checked_moved, is_opening_over};
+ghost use Rattle.swd_checker.specs.Knowing.{opening_after_end, opening_after_fault, opening_after_moved};
+ghost use Rattle.swd_checker.specs.Knowing.{opening_after_other, opening_after_whole, is_opening_decided};
 
 use crate::after::selecting;
 use crate::held::Held;
@@ -45,7 +47,8 @@ impl Opening {
 
     /// Returns what is known after a transaction. The worlds aren't held.
     pub(crate) fn after(self, tx: &Tx) -> Opening
-        ensures { (self ≡ Opening.Over → ⊥) → OpeningLeads self tx.now.result tx.now.request result }
+        ensures leads { (self ≡ Opening.Over → ⊥) → OpeningLeads self tx.now.result tx.now.request result }
+        ensures exact { result ≡ opening_after_end self tx.now.result tx.now.request }
     {
         match tx.result {
             TxEnd::Wait => self,
@@ -57,7 +60,8 @@ impl Opening {
 
     // Returns what is known after FAULT.
     fn after_fault(self) -> Opening
-        ensures { (q : Request) → OpeningLeads self TxEnd.Fault q result }
+        ensures leads { (q : Request) → OpeningLeads self TxEnd.Fault q result }
+        ensures exact { result ≡ opening_after_fault self }
     {
         match self {
             Opening::Resting => Opening::Resting,
@@ -67,7 +71,8 @@ impl Opening {
 
     // Returns what is known after OK and a data phase.
     fn after_word(self, request: Request, word: u32, parity_ok: bool) -> Opening
-        ensures { OpeningLeads self (TxEnd.Moved word parity_ok) request result }
+        ensures leads { OpeningLeads self (TxEnd.Moved word parity_ok) request result }
+        ensures exact { result ≡ opening_after_end self (TxEnd.Moved word parity_ok) request }
     {
         if parity_ok {
             self.after_whole_word(request, word)
@@ -78,7 +83,8 @@ impl Opening {
 
     // The same where the word's parity was right.
     fn after_whole_word(self, request: Request, word: u32) -> Opening
-        ensures { (ok : Bool) → ok ≡ true → OpeningLeads self (TxEnd.Moved word ok) request result }
+        ensures leads { (ok : Bool) → ok ≡ true → OpeningLeads self (TxEnd.Moved word ok) request result }
+        ensures exact { result ≡ opening_after_whole self request word }
     {
         if selects(request) {
             Opening::Selected(word)
@@ -89,7 +95,8 @@ impl Opening {
 
     // The same where the request isn't a write of SELECT whose word was sent with right parity.
     fn after_moved(self, request: Request) -> Opening
-        ensures { (word : ℕ) (ok : Bool) → OpeningLeads self (TxEnd.Moved word ok) request result }
+        ensures leads { (word : ℕ) (ok : Bool) → OpeningLeads self (TxEnd.Moved word ok) request result }
+        ensures exact { result ≡ opening_after_moved self request }
     {
         match self {
             Opening::Selected(select) => after_selected(request, select),
@@ -99,7 +106,8 @@ impl Opening {
 
     // Returns what is known after a request that may have been accepted.
     fn after_other(self, request: Request) -> Opening
-        ensures { (end : TxEnd) → OpeningLeads self end request result }
+        ensures leads { (end : TxEnd) → OpeningLeads self end request result }
+        ensures exact { result ≡ opening_after_other self request }
     {
         match self {
             Opening::Resting => after_resting(request),
@@ -110,7 +118,9 @@ impl Opening {
 
 // Returns what is known after OK to a request, where the last write was SELECT.
 fn after_selected(request: Request, select: u32) -> Opening
-    ensures { (word : ℕ) (ok : Bool) → OpeningLeads (Opening.Selected select) (TxEnd.Moved word ok) request result }
+    ensures leads { (word : ℕ) (ok : Bool)
+        → OpeningLeads (Opening.Selected select) (TxEnd.Moved word ok) request result }
+    ensures exact { result ≡ opening_after_moved (Opening.Selected select) request }
 {
     if passes(request) {
         Opening::Selected(select)
@@ -121,7 +131,8 @@ fn after_selected(request: Request, select: u32) -> Opening
 
 // Returns what is known after a request, where the target was at rest.
 fn after_resting(request: Request) -> Opening
-    ensures { (end : TxEnd) → OpeningLeads Opening.Resting end request result }
+    ensures leads { (end : TxEnd) → OpeningLeads Opening.Resting end request result }
+    ensures exact { result ≡ opening_after_other Opening.Resting request }
 {
     if leaves_rest(request) {
         Opening::Resting
@@ -135,6 +146,7 @@ impl Worlds {
     pub(crate) fn begin(&mut self, opening: Opening, tx: &Tx) -> bool
         ensures opens { result ≡ true → WorldsOpen opening tx.now.result tx.now.request self.new }
         ensures sound { result ≡ true → AreKeptSound self.new.kept.items }
+        ensures exact { result ≡ is_opening_decided opening tx.now.result tx.now.request }
     {
         match opening {
             Opening::Resting => self.open_resting(tx),
@@ -147,6 +159,7 @@ impl Worlds {
     fn open_resting(&mut self, tx: &Tx) -> bool
         ensures opens { result ≡ true → WorldsOpen Opening.Resting tx.now.result tx.now.request self.new }
         ensures sound { result ≡ true → AreKeptSound self.new.kept.items }
+        ensures exact { result ≡ is_opening_decided Opening.Resting tx.now.result tx.now.request }
     {
         match tx.result {
             TxEnd::Moved { word, parity_ok } => self.open_moved(tx.request, word, parity_ok),
@@ -158,6 +171,7 @@ impl Worlds {
     fn open_moved(&mut self, request: Request, word: u32, parity_ok: bool) -> bool
         ensures opens { result ≡ true → WorldsOpen Opening.Resting (TxEnd.Moved word parity_ok) request self.new }
         ensures sound { result ≡ true → AreKeptSound self.new.kept.items }
+        ensures exact { result ≡ is_opening_decided Opening.Resting (TxEnd.Moved word parity_ok) request }
     {
         if parity_ok {
             self.open_reading(request, word)
@@ -171,6 +185,7 @@ impl Worlds {
         ensures opens { result ≡ true → (ok : Bool) → ok ≡ true
             → WorldsOpen Opening.Resting (TxEnd.Moved word ok) request self.new }
         ensures sound { result ≡ true → AreKeptSound self.new.kept.items }
+        ensures exact { result ≡ checked_reads_status request.addr request.ap request.read }
     {
         if reads_status(request) {
             self.open_at_status(word);
@@ -184,6 +199,7 @@ impl Worlds {
     fn open_selected(&mut self, tx: &Tx, select: u32) -> bool
         ensures opens { result ≡ true → WorldsOpen (Opening.Selected select) tx.now.result tx.now.request self.new }
         ensures sound { result ≡ true → AreKeptSound self.new.kept.items }
+        ensures exact { result ≡ is_opening_decided (Opening.Selected select) tx.now.result tx.now.request }
     {
         if is_moved(tx.result) {
             self.open_refusable(tx, select)
@@ -197,6 +213,7 @@ impl Worlds {
         ensures opens { result ≡ true → is_checked_moved tx.now.result ≡ true
             → WorldsOpen (Opening.Selected select) tx.now.result tx.now.request self.new }
         ensures sound { result ≡ true → AreKeptSound self.new.kept.items }
+        ensures exact { result ≡ checked_may_be_refused tx.now.request.addr tx.now.request.ap tx.now.request.read }
     {
         if may_be_refused(tx.request) {
             self.open_at_okay(select);

@@ -6,14 +6,14 @@ use Rattle.swd_checker.proofs.whole.shown_from.Goals as goal
 
 pub loop-index-init : goal.loop-index-init
 loop-index-init c = fits_from_first c.args.start c.args.clean c.args.items.now c.of-checker.result
-    c.of-checker.ensures.starts c.of-checker.ensures.first
+    c.of-checker.ensures.starts c.of-checker.ensures.first c.of-checker.ensures.known c.of-checker.ensures.unbegun
 
 pub loop-index-preserved : goal.loop-index-preserved
 loop-index-preserved c =
     let fits = c.verdict.ensures.fits c.in-Fits.is in
     fits_from_more c.args.start c.args.clean c.args.items.now c.loop-index.index _ _ c.loop-index.checker
     c.watch.new.self c.loop-index-test.true refl c.watch.ensures.watches c.watch.ensures.follows
-    c.watch.ensures.begins fits.0 fits.1 c.loop-index.invariant
+    c.watch.ensures.begins c.watch.ensures.knows fits.0 fits.1 c.loop-index.invariant
 
 pub returns-in-Breaks : goal.returns-in-Breaks
 returns-in-Breaks c = shown_part c.args.start c.args.clean c.args.items.now c.loop-index.index c.loop-index.index

@@ -1,5 +1,6 @@
 use Rattle.std.proofs.Common.{refl}
 use Rattle.swd_checker.proofs.StandingLemmas.{not_narrowed}
+use Rattle.swd_checker.proofs.KnowingLemmas.{checker_notes_first_broken, checker_notes_nothing}
 use Rattle.swd_checker.proofs.checker.Checker.identify.Goals as goal
 
 pub returns-then-narrow-clause-identifies : goal.returns-then-narrow-clause-identifies
@@ -15,3 +16,9 @@ returns-clause-identifies c = record {
 
 pub returns-then-narrow-clause-narrows : goal.returns-then-narrow-clause-narrows
 returns-then-narrow-clause-narrows c = λ legal whole. (whole, c.narrow.ensures.exact c.if-narrow.true legal)
+
+pub returns-then-narrow-clause-notes : goal.returns-then-narrow-clause-notes
+returns-then-narrow-clause-notes c = checker_notes_nothing c.args.place c.args.self.now _ refl refl
+
+pub returns-clause-notes : goal.returns-clause-notes
+returns-clause-notes c = checker_notes_first_broken c.args.place _ c.args.self.now _ c.or-self.ensures refl

@@ -2,6 +2,7 @@ use Rattle.std.proofs.Common.{refl, sym, subst, ◌∙◌}
 use Rattle.swd_checker.specs.Openings.{OpeningHolds}
 use Rattle.swd_checker.proofs.FittingLemmas.{not_empty}
 use Rattle.swd_checker.proofs.StandingLemmas.{none_left}
+use Rattle.swd_checker.proofs.KnowingLemmas.{checker_notes_behind, checker_notes_broken, checker_notes_nothing}
 use Rattle.swd_checker.proofs.checker.Checker.settle.Goals as goal
 
 pub returns-then-self-clause-keeps : goal.returns-then-self-clause-keeps
@@ -44,3 +45,13 @@ returns-else-is_empty-clause-left c = record {
   stays = record { crowded = λ e. e; broken = λ e. e };
   left = λ room whole. (refl, refl, not_empty _ _ c.is_empty.ensures c.if-is_empty.false, refl);
 }
+
+pub returns-then-self-clause-notes : goal.returns-then-self-clause-notes
+returns-then-self-clause-notes c = checker_notes_behind c.args.place c.args.self.now _ c.crowd.new.self refl refl
+    c.crowd.ensures.notes
+
+pub returns-then-is_empty-clause-notes : goal.returns-then-is_empty-clause-notes
+returns-then-is_empty-clause-notes c = checker_notes_broken c.args.place _ c.args.self.now _ refl refl
+
+pub returns-else-is_empty-clause-notes : goal.returns-else-is_empty-clause-notes
+returns-else-is_empty-clause-notes c = checker_notes_nothing c.args.place c.args.self.now c.args.self.now refl refl

@@ -1,9 +1,10 @@
-use Rattle.std.proofs.Common.{◌<◌, length, sym, subst, ◌∙◌}
+use Rattle.std.proofs.Common.{◌<◌, length, refl, sym, subst, ◌∙◌}
 use Rattle.swd_checker.specs.declared.worlds.Worlds.{Worlds}
 use Rattle.swd_checker.specs.Reaching.{WorldsReach, AreKeptSound}
 use Rattle.swd_checker.proofs.KeptLemmas.{none_reached}
 use Rattle.swd_checker.specs.Holding.{AnyKeptHolds}
 use Rattle.swd_checker.specs.Openings.{OpeningHolds}
+use Rattle.swd_checker.proofs.KnowingLemmas.{checker_notes_behind}
 use Rattle.swd_checker.proofs.checker.Checker.step_few.Goals as goal
 
 pub returns-clause-keeps : goal.returns-clause-keeps
@@ -34,3 +35,7 @@ returns-clause-steps g c =
             left.3,
           );
     }
+
+pub returns-clause-notes : goal.returns-clause-notes
+returns-clause-notes g c = checker_notes_behind c.args.place c.args.self.now _ c.settle.new.self refl refl
+    c.settle.ensures.notes
