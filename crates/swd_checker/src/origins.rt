@@ -60,15 +60,25 @@ impl Origins {
             Item::Tx(tx) => self.note_refused(tx, origin),
             Item::Switch | Item::Idle(_) | Item::Junk(_) | Item::Cut(_) => {}
         }
-        match (self.world, checker.likeliest()) {
-            (Some(before), Some(now)) => {
-                self.note_flags(&before, &now, origin);
-                self.note_words(&before, &now, origin);
-                self.world = Some(now);
-            }
-            (None, Some(now)) => self.world = Some(now),
-            (Some(_), None) => *self = Origins::new(),
-            (None, None) => {}
+        match checker.likeliest() {
+            Some(now) => self.note_world(now, origin),
+            None => self.forget(),
+        }
+    }
+
+    // Notes what the last item changed in the world.
+    fn note_world(&mut self, now: &World, origin: Origin) {
+        if let Some(before) = self.world {
+            self.note_flags(&before, now, origin);
+            self.note_words(&before, now, origin);
+        }
+        self.world = Some(*now);
+    }
+
+    // Forgets all where no world is held any more.
+    fn forget(&mut self) {
+        if self.world.is_some() {
+            *self = Origins::new();
         }
     }
 
