@@ -71,7 +71,7 @@ rdbuff_same w powered held =
     ap (λ p. record (world_posted held (record (world_confirmed powered w) { awaits = false })) { pending = p })
     (sym (none_pending w powered))
 
-IsAloneRead : Register → Type 0
+abbrev IsAloneRead : Register → Type 0
 IsAloneRead r = (r ≡ DrwRead) ⊎ (r ≡ RdbuffRead)
 
 refusable : (r : Register) → IsAloneRead r → is_exempt_register r ≡ false
@@ -103,12 +103,12 @@ alone_steps clean tx w r word held v read is same which returns adds s t h d =
     let q : Request = tx.request in
     let a : World = record (world_confirmed q.ap w) { awaits = false } in
     let asked : Asked = record { world = w; request = q; register = r; faults = 0; clean = clean } in
-    let then : Asked = record { world = a; request = q; register = r; faults = 0; clean = clean } in
+    let now_asked : Asked = record { world = a; request = q; register = r; faults = 0; clean = clean } in
     let moved : CheckedHasMoved clean q word true s t = subst (λ e. CheckedTransacts clean e q s t) is h in
     let reads : WorldsRead v a r (checked_near_of word) true =
     read_posted_some v a r (checked_near_of word) true held (Some held) refl (posted_register r which) returns.all
     (posts_alone w r q.ap held v which adds) in
-    moves_read asked then v (checked_near_of word) word true s t read refl
+    moves_read asked now_asked v (checked_near_of word) word true s t read refl
     (record { request = refl; register = refl; clean = refl }) refl
     (λ c x by described settled okay. accepted_confirmed asked (world_confirmed q.ap w) false c x by refl
     (refusable r which) described settled okay)
@@ -208,14 +208,14 @@ pub alone_taken : (items seen changed : List Kept) (d e : Kept) (tx : Transactio
     → next ≡ world_reading r tx.request.ap held (slice_index_or changed 0 e).world
     → v.kept.items ≡ refill (length items) items (slice_set changed 0 (record { world = next; faults = faults }))
     → AloneTaken tx items v
-alone_taken items seen changed d e tx word r held next faults v one first then read moved same which returns becomes
+alone_taken items seen changed d e tx word r held next faults v one first second read moved same which returns becomes
     left =
     let k = alone_kept items one in
     let kept : Kept = k.0 in
     let put : Kept = record { world = next; faults = faults } in
     let at_first : slice_index_or seen 0 d ≡ kept = ap (λ z. slice_index_or z 0 d) (first ∙ k.1) in
-    let at_then : slice_index_or changed 0 e ≡ kept = ap (λ z. slice_index_or z 0 e) (then ∙ k.1) in
-    let is : v.kept.items ≡ put ∷ [] = left ∙ ap (λ z. refill (length items) items (slice_set z 0 put)) (then ∙ k.1)
+    let at_then : slice_index_or changed 0 e ≡ kept = ap (λ z. slice_index_or z 0 e) (second ∙ k.1) in
+    let is : v.kept.items ≡ put ∷ [] = left ∙ ap (λ z. refill (length items) items (slice_set z 0 put)) (second ∙ k.1)
     ∙ ap (λ z. refill (length z) z (slice_set (kept ∷ []) 0 put)) k.1 in
     taken_by tx items kept put r word held v k.1 is read moved
     (same ∙ ap (λ (z : Kept). world_register z.world tx.request) at_first) which

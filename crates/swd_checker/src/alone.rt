@@ -68,7 +68,11 @@ impl World {
         ensures { result ≡ (world_succeeded self.now).tar }
     {
         match self.pending {
-            Some(_) => if self.increments { self.tar.incremented() } else { self.tar },
+            Some(_) => if self.increments {
+                self.tar.incremented()
+            } else {
+                self.tar
+            },
             None => self.tar,
         }
     }

@@ -68,9 +68,36 @@ impl Origins {
 
     // Notes what the last item changed in the world.
     fn note_world(&mut self, now: &World, origin: Origin) {
-        if let Some(before) = self.world {
-            self.note_flags(&before, now, origin);
-            self.note_words(&before, now, origin);
+        let Some(before) = &self.world else {
+            self.world = Some(*now);
+            return;
+        };
+        if before.sticky_error != now.sticky_error {
+            self.sticky_error = Some(origin);
+        }
+        if before.write_error != now.write_error {
+            self.write_error = Some(origin);
+        }
+        if before.read_ok != now.read_ok {
+            self.read_ok = Some(origin);
+        }
+        if before.debug != now.debug {
+            self.debug = Some(origin);
+        }
+        if before.system != now.system {
+            self.system = Some(origin);
+        }
+        if before.increments != now.increments {
+            self.increments = Some(origin);
+        }
+        if before.tar != now.tar {
+            self.tar = Some(origin);
+        }
+        if before.buffer != now.buffer {
+            self.buffer = Some(origin);
+        }
+        if before.last_returned != now.last_returned {
+            self.last_returned = Some(origin);
         }
         self.world = Some(*now);
     }
@@ -89,39 +116,6 @@ impl Origins {
             && matches!(&tx.result, TxEnd::Wait | TxEnd::Fault)
         {
             self.refused = Some(origin);
-        }
-    }
-
-    fn note_flags(&mut self, before: &World, now: &World, origin: Origin) {
-        if before.sticky_error != now.sticky_error {
-            self.sticky_error = Some(origin);
-        }
-        if before.write_error != now.write_error {
-            self.write_error = Some(origin);
-        }
-        if before.read_ok != now.read_ok {
-            self.read_ok = Some(origin);
-        }
-        if before.debug != now.debug {
-            self.debug = Some(origin);
-        }
-        if before.system != now.system {
-            self.system = Some(origin);
-        }
-    }
-
-    fn note_words(&mut self, before: &World, now: &World, origin: Origin) {
-        if before.increments != now.increments {
-            self.increments = Some(origin);
-        }
-        if before.tar != now.tar {
-            self.tar = Some(origin);
-        }
-        if before.buffer != now.buffer {
-            self.buffer = Some(origin);
-        }
-        if before.last_returned != now.last_returned {
-            self.last_returned = Some(origin);
         }
     }
 }

@@ -175,14 +175,10 @@ impl Worlds {
         ensures crowded { self.new.crowded ≡ self.old.crowded }
         ensures none { result ≡ false → self.new ≡ self.old }
     {
-        let TxEnd::Moved {
-            word,
-            parity_ok: true,
-        } = tx.result
-        else {
+        let TxEnd::Moved { word, parity_ok } = tx.result else {
             return false;
         };
-        if !tx.request.read || self.kept.len() != 1 {
+        if !parity_ok || !tx.request.read || self.kept.len() != 1 {
             return false;
         }
         let world = &self.kept[0].world;
@@ -190,9 +186,7 @@ impl Worlds {
         let Some(held) = world.returned(register, tx.request, word) else {
             return false;
         };
-        self.kept[0]
-            .world
-            .take_read(register, tx.request.ap, held);
+        self.kept[0].world.take_read(register, tx.request.ap, held);
         true
     }
 

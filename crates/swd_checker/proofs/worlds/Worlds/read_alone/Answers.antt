@@ -8,10 +8,10 @@ returns-clause-steps c = λ e.
     let items = c.args.self.now.kept.items in
     let count = c.len.ensures.value in
     let one : length items ≡ 1 = omega arith in
-    let p = c.in-Moved-default-true in
+    let p = c.in-Moved in
     (alone_taken items c.deref.result.now c.deref_mut.result.now _ _ c.args.tx.now p.word c.register-register.result
-    c.in-Some.held c.take_read.new.self _ _ one c.deref.ensures c.deref_mut.ensures.value c.if-not-tx.false
-    (p.is ∙ ap (Moved p.word) p.parity_ok-is) c.register-register.ensures c.in-Some.ensures.read
+    c.in-Some.held c.take_read.new.self _ _ one c.deref.ensures.0 c.deref_mut.ensures.value c.if-not-tx.false
+    (p.is ∙ ap (Moved p.word) c.if-not-parity_ok.false) c.register-register.ensures c.in-Some.ensures.read
     c.in-Some.ensures.returns c.take_read.ensures refl).steps
 
 pub returns-clause-reaches : goal.returns-clause-reaches
@@ -19,8 +19,8 @@ returns-clause-reaches c = λ e.
     let items = c.args.self.now.kept.items in
     let count = c.len.ensures.value in
     let one : length items ≡ 1 = omega arith in
-    let p = c.in-Moved-default-true in
+    let p = c.in-Moved in
     (alone_taken items c.deref.result.now c.deref_mut.result.now _ _ c.args.tx.now p.word c.register-register.result
-    c.in-Some.held c.take_read.new.self _ _ one c.deref.ensures c.deref_mut.ensures.value c.if-not-tx.false
-    (p.is ∙ ap (Moved p.word) p.parity_ok-is) c.register-register.ensures c.in-Some.ensures.read
+    c.in-Some.held c.take_read.new.self _ _ one c.deref.ensures.0 c.deref_mut.ensures.value c.if-not-tx.false
+    (p.is ∙ ap (Moved p.word) c.if-not-parity_ok.false) c.register-register.ensures c.in-Some.ensures.read
     c.in-Some.ensures.returns c.take_read.ensures refl).reaches
