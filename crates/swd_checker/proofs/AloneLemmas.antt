@@ -26,8 +26,7 @@ use Rattle.swd_checker.specs.Checked.{CheckedTransacts, CheckedHasMoved}
 use Rattle.swd_checker.specs.Laws.{WorldDescribesPort}
 use Rattle.swd_checker.specs.Holding.{AnyKeptHolds, KeptDescribes, WorldsHoldPort}
 use Rattle.swd_checker.specs.Adding.{WorldsPost, WorldsRead}
-use Rattle.swd_checker.specs.Asking.{IsAskedBy}
-use Rattle.swd_checker.specs.Reached.{WorldsMove, WorldsTransfer, WorldsReadSeen, WorldsPostHeld, world_accepted}
+use Rattle.swd_checker.specs.Reached.{WorldsMove, WorldsTransfer, WorldsPostHeld, world_accepted}
 use Rattle.swd_checker.specs.Reaching.{CheckedLink, LinkSteps, LinkHas, WorldReaches, WorldsReach, AreKeptSound}
 use Rattle.swd_checker.specs.Reaching.{HeldNarrows, checked_near_of}
 use Rattle.swd_checker.specs.Steps.{world_due, world_posted, world_register}

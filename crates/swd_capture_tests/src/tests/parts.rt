@@ -131,7 +131,10 @@ fn a_transaction_follows_another(rt: HostRuntime) -> Result<(), Fail> {
     }
     let (lines, whole) = lines_by_tx(rt.alloc(), false, bits.as_slice())?;
     let line = "dp 0 read ok 2ba01477\n";
-    assert_eq!(rt; lines.as_str(), format!(in rt.alloc(); "{line}{line}{line}{line}")?.as_str());
+    assert_eq!(rt;
+        lines.as_str(),
+        format!(in rt.alloc(); "{line}{line}{line}{line}")?.as_str()
+    );
     assert_eq!(rt; whole, 2);
     Ok(())
 }

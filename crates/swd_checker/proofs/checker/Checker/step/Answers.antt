@@ -1,7 +1,7 @@
 use Rattle.std.proofs.Common.{◌∙◌, sym, subst, refl}
 use Rattle.swd_checker.specs.declared.worlds.Worlds.{Worlds}
 use Rattle.swd_checker.specs.Openings.{OpeningHolds}
-use Rattle.swd_checker.specs.Standing.{CheckerKeeps, CheckerChecks}
+use Rattle.swd_checker.specs.Standing.{CheckerChecks}
 use Rattle.swd_checker.specs.Fitting.{CheckerSteps}
 use Rattle.swd_checker.proofs.checker.Checker.step.Goals as goal
 
