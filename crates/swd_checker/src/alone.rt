@@ -11,8 +11,8 @@ use swd_bits::Request;
 use swd_port::{Register, Reply};
 
 impl World {
-    /// Returns what is known of the read buffer once a read of DRW or RDBUFF returned it as this word. `None` if it can't
-    /// have been returned, or the register is another one.
+    /// Returns what is known of the read buffer once a read of DRW or RDBUFF returned it as this word. `None` if it
+    /// can't have been returned, or the register is another one.
     #[inline(always)]
     pub(crate) fn returned(&self, register: Register, request: Request, word: u32) -> Option<Held>
         ensures read { IfSome result (λ held. (register ≡ Register.DrwRead) ⊎ (register ≡ Register.RdbuffRead)) }
