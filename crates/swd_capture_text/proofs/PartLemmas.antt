@@ -39,6 +39,24 @@ module _ {K W : Type 0} (led : K × W → List Part → K × W → Type 0) where
         goes = h.goes;
       }
 
+  -- more bits are taken, and a part is returned and given to the sink
+  pub parts_gather_followed : ((a b c : K × W) (first next : List Part) → led a first b → led b next c
+      → led a (first ++ next) c) → (start : PartStart (K × W)) (before after : Source) (old new : K × W)
+      (bits next : List Bool) (parts more : List Part) (n : ℕ)
+      → (SourceHas start.reading before bits parts → SourceHas start.reading after (bits ++ next) (parts ++ more))
+      → source_fed after ≡ source_fed before + n → length next ≡ n → source_fed before + n < 2 ^ 64
+      → led old more new → PartsGather led start before old bits parts
+      → PartsGather led start after new (bits ++ next) (parts ++ more)
+  parts_gather_followed led_on start before after old new bits next parts more n gives fed same few goes h =
+      let count = h.count in
+      let len : length (bits ++ next) ≡ length bits + length next = length-append bits next in
+      record {
+        has = gives h.has;
+        count = omega arith;
+        counted = omega arith;
+        goes = led_on start.from old new parts more h.goes goes;
+      }
+
   -- a reader of parts that took no bits
   pub part_reader_begins : (reading : Reading) (sink : K) (reader : PartReader K) (writer : W)
       → ((a : K × W) → led a [] a) → IsFreshPartReader reading sink reader

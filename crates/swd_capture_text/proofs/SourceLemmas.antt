@@ -56,6 +56,23 @@ source_capture_settled old new same few Trace bits parts h = absurd h
 source_capture_settled old new same few (Capture over) bits parts h =
     (same over bits parts h, (new, same over bits parts h, few))
 
+-- a transaction is taken and the part before it returned: these are the parts that the bits decide
+pub source_capture_follows : (old new : CaptureDecoder) (next : List Bool) (part : Part)
+    → ((over : Bool) (bits : List Bool) (parts : List Part) → capture.ResyncHasRead over old bits parts
+    → capture.ResyncHasRead over new (bits ++ next) (parts ++ part ∷ [])) → capture.resync_held_len new < 142
+    → (reading : Reading) (bits : List Bool) (parts : List Part) → SourceHas reading (OfCapture old) bits parts
+    → SourceHas reading (OfCapture new) (bits ++ next) (parts ++ part ∷ [])
+    × SourceDecides reading (bits ++ next) (parts ++ part ∷ [])
+source_capture_follows old new next part reads few Trace bits parts h = absurd h
+source_capture_follows old new next part reads few (Capture over) bits parts h =
+    (reads over bits parts h, (new, reads over bits parts h, few))
+
+-- what follows from two facts of a Some
+pub source_on_some : {A : Type 0} {P Q R : A → Type 0} (r : Option A) → ((a : A) → P a → Q a → R a) → IfSome r P
+    → IfSome r Q → IfSome r R
+source_on_some (Some x) f p q = f x p q
+source_on_some None f p q = tt
+
 -- what follows from two facts of a None
 pub source_on_none : {A P Q R : Type 0} (r : Option A) → (P → Q → R) → IfNone r P → IfNone r Q → IfNone r R
 source_on_none (Some x) f p q = tt

@@ -141,6 +141,10 @@ impl<W, K: PartSink<W>> BitSink<W> for PartReader<K> {
     }
 
     fn take_bits(&mut self, writer: &mut W, bits: u64, count: u8) -> u8 {
+        if let Some(found) = self.source.take_tx(bits, count) {
+            self.sink.take_part(writer, &found.part);
+            return found.taken;
+        }
         let taken = self.source.take_bits(bits, count);
         give_due(self, writer);
         taken

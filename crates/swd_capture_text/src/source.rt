@@ -1,7 +1,7 @@
 //! Decodes bits to parts, by either reading.
 use crate::reading::Reading;
 use swd_bits::TxBits;
-use swd_resync::{CaptureDecoder, Part};
+use swd_resync::{CaptureDecoder, FollowedPart, Part};
 use swd_trace::Decoder;
 
 /// A decoder for either reading. The parts of a trace are its items.
@@ -80,7 +80,31 @@ impl Source {
     {
         match self {
             Source::Trace(decoder) => decoder.take_bits(bits, count),
-            Source::Capture(decoder) => decoder.take_bits(bits, count),
+            Source::Capture(decoder) => {
+                let wanted = decoder.wanted_bits().min(count);
+                decoder.take_bits(bits, wanted)
+            }
+        }
+    }
+
+    /// Takes a whole transaction from the lowest `count` bits, and returns the part before it, if that is decided by it
+    /// alone. `None` says nothing about the bits, and changes nothing. `take_bits` and `due` find the same parts.
+    #[inline(always)]
+    pub(crate) fn take_tx(&mut self, bits: u64, count: u8) -> Option<FollowedPart>
+        requires within { count ≤ 64 }
+        requires room { source_fed self.old + count < 2 ^ 64 }
+        ensures has { IfSome result (λ found. (reading : Reading) (before : List Bool) (parts : List Part)
+            → SourceHas reading self.old before parts
+            → SourceHas reading self.new (before ++ low_bits found.taken bits) (parts ++ found.part ∷ [])
+            × SourceDecides reading (before ++ low_bits found.taken bits) (parts ++ found.part ∷ [])) }
+        ensures most { IfSome result (λ found. found.taken ≤ count) }
+        ensures ready { IfSome result (λ found. IsSourceReady self.new) }
+        ensures fed { IfSome result (λ found. source_fed self.new ≡ source_fed self.old + found.taken) }
+        ensures none { IfNone result (self.new ≡ self.old) }
+    {
+        match self {
+            Source::Trace(_) => None,
+            Source::Capture(decoder) => decoder.take_tx(bits, count),
         }
     }
 

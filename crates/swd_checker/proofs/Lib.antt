@@ -12,6 +12,7 @@ pub mod StatusLemmas
 pub mod WriteLemmas
 pub mod AddedLemmas
 pub mod AddingLemmas
+pub mod AloneLemmas
 pub mod ArrivalLemmas
 pub mod PhaseLemmas
 pub mod CheckedLemmas

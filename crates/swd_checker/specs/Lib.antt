@@ -18,6 +18,7 @@ pub mod Fields
 pub mod FieldsRead
 pub mod Exact
 pub mod Reaching
+pub mod Alone
 pub mod Joining
 pub mod Identifying
 pub mod Reached

@@ -11,16 +11,16 @@ use swd_port::{Register, Reply, Reset};
 impl World {
     /// Returns the register that a request names.
     #[inline(always)]
-    pub(crate) fn register(self, request: Request) -> Register
-        ensures { result ≡ world_register self request }
+    pub(crate) fn register(&self, request: Request) -> Register
+        ensures { result ≡ world_register self.now request }
     {
         Register::named_where(self.mem_ap, self.bank0, request)
     }
 
     /// Returns the answer to a request where nothing is pending, and no WAIT is asked for.
     #[inline(always)]
-    pub(crate) fn due(self, request: Request) -> Reply
-        ensures { result ≡ world_due self request }
+    pub(crate) fn due(&self, request: Request) -> Reply
+        ensures { result ≡ world_due self.now request }
     {
         let register = self.register(request);
         if !self.answers(register) {
@@ -35,16 +35,16 @@ impl World {
     }
 
     /// Returns whether the request is one of an access port without debug power.
-    pub(crate) fn is_unpowered(self, request: Request) -> bool
-        ensures { result ≡ is_port_unpowered request.ap (is_checked_power_there self.debug) }
+    pub(crate) fn is_unpowered(&self, request: Request) -> bool
+        ensures { result ≡ is_port_unpowered request.ap (is_checked_power_there self.now.debug) }
     {
         request.ap && !self.debug.is_there()
     }
 
     // Returns whether a request for the register is acknowledged.
     #[inline(always)]
-    fn answers(self, register: Register) -> bool
-        ensures { result ≡ port_is_answered self.reset register }
+    fn answers(&self, register: Register) -> bool
+        ensures { result ≡ port_is_answered self.now.reset register }
     {
         match self.reset {
             Reset::Unreset => false,

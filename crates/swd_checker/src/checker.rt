@@ -75,7 +75,7 @@ pub struct Checker {
     gaps: u64,
     in_gap: bool,
     stray: u8,
-    broken: Option<(u64, Rule)>,
+    pub(crate) broken: Option<(u64, Rule)>,
     crowded: Option<u64>,
 }
 
@@ -357,13 +357,24 @@ impl Checker {
         }
     }
 
-    // Takes a transaction in each of the worlds. Only those that are held are copied: mostly one.
+    // Takes a transaction in each of the worlds. Mostly there is one, and the transaction is a read.
     fn step(&mut self, tx: &Tx, place: u64)
         ensures keeps { CheckerKeeps self.old self.new }
         ensures checks { self.old.opening ≡ Opening.Over → CheckerChecks tx.now self.old self.new }
         ensures steps { CheckerSteps tx.now self.old self.new }
         ensures notes { CheckerNotes place self.old self.new }
         ensures began { self.new.began ≡ self.old.began }
+    {
+        if !self.worlds.read_alone(tx) {
+            self.step_any(tx, place);
+        }
+    }
+
+    // Takes any transaction in each of the worlds. Only those that are held are copied.
+    fn step_any(&mut self, tx: &Tx, place: u64)
+        ensures keeps { CheckerKeeps self.old self.new }
+        ensures checks { self.old.opening ≡ Opening.Over → CheckerChecks tx.now self.old self.new }
+        ensures steps { CheckerSteps tx.now self.old self.new }
     {
         let count = self.worlds.kept.len();
         if count <= 1 {
@@ -427,22 +438,22 @@ impl Checker {
     // Returns the rule that a transaction breaks in the world with the fewest faults.
     fn rule_broken(&self, tx: &Tx) -> Rule {
         match self.likeliest() {
-            Some(world) => broken_rule(world, tx, self.clean),
+            Some(world) => broken_rule(*world, tx, self.clean),
             None => Rule::Flags,
         }
     }
 
     /// Returns the world with the fewest damaged or lost requests. After `Breaks` it is one before the item that no run
     /// explains.
-    pub(crate) fn likeliest(&self) -> Option<World> {
+    pub(crate) fn likeliest(&self) -> Option<&World> {
         // Mostly there is one.
         if self.worlds.kept.len() == 1 {
-            return Some(self.worlds.kept[0].world);
+            return Some(&self.worlds.kept[0].world);
         }
         let fewest = self.worlds.fewest_faults();
         for kept in &self.worlds.kept {
             if kept.faults == fewest {
-                return Some(kept.world);
+                return Some(&kept.world);
             }
         }
         None

@@ -16,6 +16,7 @@
 #![tactic(auto)]
 
 mod after;
+mod alone;
 mod answer;
 mod checker;
 mod fields;

@@ -60,29 +60,18 @@ impl Origins {
             Item::Tx(tx) => self.note_refused(tx, origin),
             Item::Switch | Item::Idle(_) | Item::Junk(_) | Item::Cut(_) => {}
         }
-        match (self.world, checker.likeliest()) {
-            (Some(before), Some(now)) => {
-                self.note_flags(&before, &now, origin);
-                self.note_words(&before, &now, origin);
-                self.world = Some(now);
-            }
-            (None, Some(now)) => self.world = Some(now),
-            (Some(_), None) => *self = Origins::new(),
-            (None, None) => {}
+        match checker.likeliest() {
+            Some(now) => self.note_world(now, origin),
+            None => self.forget(),
         }
     }
 
-    fn note_refused(&mut self, tx: &Tx, origin: Origin) {
-        let request = tx.request;
-        if request.ap
-            && request.addr == Reg4::RC
-            && matches!(&tx.result, TxEnd::Wait | TxEnd::Fault)
-        {
-            self.refused = Some(origin);
-        }
-    }
-
-    fn note_flags(&mut self, before: &World, now: &World, origin: Origin) {
+    // Notes what the last item changed in the world.
+    fn note_world(&mut self, now: &World, origin: Origin) {
+        let Some(before) = &self.world else {
+            self.world = Some(*now);
+            return;
+        };
         if before.sticky_error != now.sticky_error {
             self.sticky_error = Some(origin);
         }
@@ -98,9 +87,6 @@ impl Origins {
         if before.system != now.system {
             self.system = Some(origin);
         }
-    }
-
-    fn note_words(&mut self, before: &World, now: &World, origin: Origin) {
         if before.increments != now.increments {
             self.increments = Some(origin);
         }
@@ -112,6 +98,24 @@ impl Origins {
         }
         if before.last_returned != now.last_returned {
             self.last_returned = Some(origin);
+        }
+        self.world = Some(*now);
+    }
+
+    // Forgets all where no world is held any more.
+    fn forget(&mut self) {
+        if self.world.is_some() {
+            *self = Origins::new();
+        }
+    }
+
+    fn note_refused(&mut self, tx: &Tx, origin: Origin) {
+        let request = tx.request;
+        if request.ap
+            && request.addr == Reg4::RC
+            && matches!(&tx.result, TxEnd::Wait | TxEnd::Fault)
+        {
+            self.refused = Some(origin);
         }
     }
 }

@@ -1,7 +1,7 @@
 //! Why an item breaks a rule.
 ghost use Rattle.std.specs.Prelude.{◌≡◌, None, IfSome};
 
-use crate::checker::{Checker, Verdict};
+use crate::checker::Checker;
 use crate::held::Held;
 use crate::near::Near;
 use crate::origins::{Origin, Origins};
@@ -80,15 +80,22 @@ pub struct Reason {
 
 impl Checker {
     /// Returns why the last transaction that was watched breaks a rule, if it does.
+    #[inline(always)]
     pub fn reason(&self, tx: &Tx, origins: &Origins) -> Option<Reason>
         ensures breaks { IfSome result (λ _. self.now.broken ≡ None → ⊥) }
         ensures goes_on { result ≡ None → self.now.broken ≡ None }
     {
-        let Verdict::Breaks { rule, .. } = self.verdict() else {
-            return None;
-        };
+        match self.broken {
+            Some((_, rule)) => Some(self.reason_of(rule, tx, origins)),
+            None => None,
+        }
+    }
+
+    // Returns why a transaction breaks this rule.
+    #[inline(never)]
+    fn reason_of(&self, rule: Rule, tx: &Tx, origins: &Origins) -> Reason {
         let world = match self.likeliest() {
-            Some(world) => world,
+            Some(world) => *world,
             // DPIDR is read before there is a world.
             None => World::made(),
         };
@@ -106,7 +113,7 @@ impl Checker {
             Rule::Identification => (word_identified(self.identified()), Cause::Always),
             Rule::Parity => (Due::RightParity, Cause::Always),
         };
-        Some(Reason { rule, due, cause })
+        Reason { rule, due, cause }
     }
 }
 

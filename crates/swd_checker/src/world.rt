@@ -1,8 +1,8 @@
 //! Worlds: descriptions of the states in which a target may be.
-ghost use Rattle.std.specs.Prelude.{◌≡◌, ◌↔◌, IsTrue, true, false, Some};
+ghost use Rattle.std.specs.Prelude.{◌≡◌, ◌↔◌, IsTrue, true, false, Some, if◌then◌else◌};
 ghost use Rattle.swd_checker.specs.Worlds.{world_succeeded, world_failed, world_after_reset, world_after_wait};
 ghost use Rattle.swd_checker.specs.Worlds.{world_after_fault, world_after_damage, is_checked_power_there};
-ghost use Rattle.swd_checker.specs.Worlds.{world_made, world_confirmed};
+ghost use Rattle.swd_checker.specs.Worlds.{world_made, world_confirmed, PowerSeen};
 ghost use Rattle.swd_checker.specs.Words.{IsCheckedStatus, is_checked_power_on, is_checked_power_seen};
 ghost use Rattle.swd_checker.specs.Steps.{checked_power_requested, checked_power_found};
 ghost use Rattle.swd_checker.specs.Covering.{PowerIncludes, WorldIncludes, AreWorldsJoined, IsWorldAlike, IsWorldWider};
@@ -86,6 +86,15 @@ impl Power {
         ensures { result ≡ checked_power_requested on }
     {
         if on { Power::Unseen } else { Power::Off }
+    }
+
+    /// Returns debug power once OK was answered to a request that can be refused. It is one of an access port, or of the
+    /// debug port.
+    #[inline(always)]
+    pub(crate) fn confirmed(self, ap: bool) -> Power
+        ensures { result ≡ (if ap then PowerSeen else self) }
+    {
+        if ap { Power::Seen } else { self }
     }
 
     /// Returns the power once a read of CTRL/STAT found it acknowledged.

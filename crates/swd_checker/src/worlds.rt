@@ -1,5 +1,5 @@
 //! The list of worlds.
-ghost use Rattle.std.specs.Prelude.{ℕ, ◌≡◌, ◌≢◌, ◌≤◌, ◌<◌, [], ◌∷◌, Bool, false, length};
+ghost use Rattle.std.specs.Prelude.{ℕ, ◌≡◌, ◌≢◌, ◌≤◌, ◌<◌, [], ◌∷◌, Bool, true, false, length};
 ghost use Rattle.swd_trace.specs.declared.item.Item.{Item};
 ghost use Rattle.swd_port.specs.Port.{Port, Target};
 ghost use Rattle.swd_port.specs.Leading.{PortLeads};
@@ -12,7 +12,7 @@ ghost use Rattle.swd_checker.specs.Reaching.{AreKeptSound, checked_link};
 
 use crate::world::World;
 use arrayvec::ArrayVec;
-use swd_bits::Tx;
+use swd_bits::{Tx, TxEnd};
 
 /// The most worlds that a checker holds.
 pub(crate) const MOST_WORLDS: usize = 64;
@@ -160,6 +160,34 @@ impl Worlds {
         for kept in before {
             self.step(kept.world, kept.faults, tx, clean);
         }
+    }
+
+    /// Takes a read of DRW or RDBUFF with right parity, if there is one world and the read may have returned its word.
+    /// Otherwise it returns `false` and changes nothing. [`Worlds::step_each`] leads to the same world.
+    #[inline(always)]
+    pub(crate) fn read_alone(&mut self, tx: &Tx) -> bool
+        ensures steps { result ≡ true → (clean : Bool) (s t : Port)
+            → CheckedTransacts clean tx.now.result tx.now.request s t
+            → AnyKeptHolds self.old.kept.items s → WorldsHoldPort self.new t }
+        ensures reaches { result ≡ true → (link : CheckedLink) (clean : Bool) → link.from ≡ self.old.kept.items
+            → LinkSteps link clean tx.now → AreKeptSound self.old.kept.items → WorldsReach link self.new }
+        ensures some { result ≡ true → 0 < length self.new.kept.items }
+        ensures crowded { self.new.crowded ≡ self.old.crowded }
+        ensures none { result ≡ false → self.new ≡ self.old }
+    {
+        let TxEnd::Moved { word, parity_ok } = tx.result else {
+            return false;
+        };
+        if !parity_ok || !tx.request.read || self.kept.len() != 1 {
+            return false;
+        }
+        let world = &self.kept[0].world;
+        let register = world.register(tx.request);
+        let Some(held) = world.returned(register, tx.request, word) else {
+            return false;
+        };
+        self.kept[0].world.take_read(register, tx.request.ap, held);
+        true
     }
 
     /// Returns the number of the world that has fewest damaged or lost requests.

@@ -1,34 +1,53 @@
 -- Laws of the transaction that a decoder of captures keeps.
-use Rattle.std.proofs.Common.{◌≡◌, ℕ, ◌+◌, ◌<◌, ◌≤◌, Bool, true, false, List, ◌++◌, length, drop, not, arith, sym}
-use Rattle.std.proofs.Common.{ap, ◌∙◌, subst}
+use Rattle.std.proofs.Common.{◌≡◌, ℕ, ◌+◌, ◌-◌, ◌*◌, ◌/◌, ◌%◌, ◌^◌, ◌<◌, ◌≤◌, Bool, true, false, List, [], ◌∷◌, ◌++◌}
+use Rattle.std.proofs.Common.{length, take, drop, not, bit_and, arith, refl, sym, ap, ◌∙◌, subst}
 use Rattle.std.specs.Prelude.{Option, Some, None, unwrap_or}
-use Rattle.std.proofs.lemmas.List.{append_assoc, length-append}
+use Rattle.std.proofs.lemmas.List.{append_assoc, append-nil, length-append, take_at, drop_at}
+use Rattle.swd_bits.specs.Bits.{low_bits}
+use Rattle.swd_bits.specs.Transactions.{SpellsTx}
+use Rattle.swd_bits.proofs.BitsLemmas.{length-low_bits}
 use Rattle.swd_bits.specs.declared.tx.Tx.{Tx as Transaction}
 use Rattle.swd_bits.specs.declared.tx.TxEnd.{TxEnd}
 use Rattle.swd_bits.specs.declared.tx.TxEnd.TheVariants.{Moved, Wait, Fault, NoAck}
 use Rattle.swd_trace.specs.declared.mode.Mode.TheVariants.{Synced}
+use Rattle.swd_trace.specs.Stands.{Whole, stands}
+use Rattle.swd_trace.proofs.NumberLemmas.{decoder_bits_parted, decoder_bits_masked, decoder_bits_mod}
+use Rattle.swd_trace.proofs.StandLemmas.{trace_stand_whole_fits}
+use Rattle.swd_trace.proofs.SpellingLemmas.{trace_stand_is_spelled, trace_stand_of_spelled_tx}
 use Rattle.swd_resync.specs.declared.stage.WholeTx.{WholeTx}
 use Rattle.swd_resync.specs.Parts.{resync_first, resync_is_junk, stretch_continues, stretch_after_tx}
 use Rattle.swd_resync.specs.Sights.{IsTxSight}
 use Rattle.swd_resync.specs.Fronts.{IsResyncFront, resync_is_acknowledged}
-use Rattle.swd_resync.specs.Stages.{ResyncStill}
+use Rattle.swd_resync.specs.Stages.{ResyncMove, ResyncStill, parts_at_stage, resync_with_part, stretch_fate_move}
+use Rattle.swd_resync.specs.Stages.{resync_stage_counted, stretch_stage_behind}
+use Rattle.swd_resync.specs.declared.judge.TxFate.TheVariants.{Reported}
 use Rattle.swd_resync.specs.declared.overrun.Overrun.{Overrun}
+use Rattle.swd_resync.specs.declared.part.Part.{Part}
+use Rattle.swd_resync.specs.declared.stage.Move.{Move}
 use Rattle.swd_resync.specs.declared.stage.RemovalStage.{RemovalStage}
-use Rattle.swd_resync.proofs.JudgeLemmas.{judged_near_behind, judged_near_of_few}
-use Rattle.swd_resync.proofs.MoveLemmas.{resync_is_idle, resync_not_idle_no_zero}
+use Rattle.swd_resync.specs.declared.stage.RemovalStage.TheVariants.{Stretch}
+use Rattle.swd_resync.proofs.JudgeLemmas.{judged_near_behind, judged_near_of_few, stretch_reports_followed_tx}
+use Rattle.swd_resync.proofs.MoveLemmas.{resync_is_idle, resync_not_idle_no_zero, stretch_tx_moves}
+use Rattle.swd_resync.proofs.SightLemmas.{sight_plain_tx}
+
+-- a transaction that is seen is seen when bits are appended, too
+pub tx_sight_more : (phases : Bool) (tx : Transaction) (len : ℕ) (bits more : List Bool)
+    → IsTxSight phases tx len bits → IsTxSight phases tx len (bits ++ more)
+tx_sight_more phases tx len bits more seen =
+    let l : length (bits ++ more) ≡ length bits + length more = length-append bits more in
+    let f : len ≤ length bits = seen.fits in
+    record {
+      some = seen.some;
+      most = seen.most;
+      fits = omega arith;
+      first = λ rest. ap (resync_first phases Synced) (append_assoc bits more rest) ∙ seen.first (more ++ rest);
+    }
 
 -- a transaction at the front stays there when bits are appended
 pub resync_front_more : (phases : Bool) (seen : Option WholeTx) (bits more all : List Bool) → all ≡ bits ++ more
     → IsResyncFront phases seen bits → IsResyncFront phases seen all
 resync_front_more phases seen bits more all e h = λ w is.
-    let l : length (bits ++ more) ≡ length bits + length more = length-append bits more in
-    let f : w.len ≤ length bits = (h w is).fits in
-    subst (IsTxSight phases w.tx w.len) (sym e) (record {
-      some = (h w is).some;
-      most = (h w is).most;
-      fits = omega arith;
-      first = λ rest. ap (resync_first phases Synced) (append_assoc bits more rest) ∙ (h w is).first (more ++ rest);
-    })
+    subst (IsTxSight phases w.tx w.len) (sym e) (tx_sight_more phases w.tx w.len bits more (h w is))
 
 -- nothing was seen
 pub resync_front_none : (phases : Bool) (bits : List Bool) → IsResyncFront phases None bits
@@ -64,3 +83,70 @@ stretch_waits_behind over ended stage len bits most e few = record {
   near = λ f. judged_near_behind len 0 92 bits (omega arith) (judged_near_of_few (drop len bits) few);
   none = λ f. absurd cc;
 }
+
+-- the lowest `n` bits of a number, as a mask keeps them
+masked_bits : (n v : ℕ) → n < 64 → low_bits n (bit_and v (1 * 2 ^ n % 2 ^ 64 - 1)) ≡ low_bits n v
+masked_bits n v few = ap (low_bits n) (decoder_bits_masked n v few) ∙ decoder_bits_mod n v
+
+-- a whole transaction at their front has no more bits
+pub resync_whole_tx_fits : (n len v : ℕ) (tx : Transaction) → n < 64
+    → stands (low_bits n (bit_and v (1 * 2 ^ n % 2 ^ 64 - 1))) ≡ Whole tx len → len ≤ n
+resync_whole_tx_fits n len v tx few e =
+    let fits : len ≤ length (low_bits n v) =
+    trace_stand_whole_fits (low_bits n v) tx len (ap stands (sym (masked_bits n v few)) ∙ e) in
+    let l : length (low_bits n v) ≡ n = length-low_bits n v in
+    omega arith
+
+-- and is one of its own bits alone
+pub resync_whole_tx_found : (n len v : ℕ) (tx : Transaction) → n < 64
+    → stands (low_bits n (bit_and v (1 * 2 ^ n % 2 ^ 64 - 1))) ≡ Whole tx len → 12 ≤ len
+    → IsTxSight false tx len (low_bits len v)
+resync_whole_tx_found n len v tx few e some =
+    let fits : len ≤ n = resync_whole_tx_fits n len v tx few e in
+    let own : length (low_bits len v) ≡ len = length-low_bits len v in
+    let front : take len (low_bits n v) ≡ low_bits len v =
+    ap (take len) (decoder_bits_parted len n v fits)
+    ∙ take_at (low_bits len v) (low_bits (n - len) (v / 2 ^ len)) len own in
+    let spelled : SpellsTx tx (low_bits len v) = subst (SpellsTx tx) front
+    (trace_stand_is_spelled (low_bits n v) tx len (ap stands (sym (masked_bits n v few)) ∙ e)) in
+    let alone : stands (low_bits len v) ≡ Whole tx len =
+    ap stands (sym (append-nil (low_bits len v))) ∙ trace_stand_of_spelled_tx tx (low_bits len v) [] spelled
+    ∙ ap (Whole tx) own in
+    subst (IsTxSight false tx len) (append-nil (low_bits len v))
+    (sight_plain_tx false tx len (low_bits len v) alone some refl [])
+
+-- the stage behind a reported transaction counts no bits
+pub resync_stage_behind_counts : (end : TxEnd) → resync_stage_counted (stretch_stage_behind end) ≡ 0
+resync_stage_behind_counts (Moved word ok) = refl
+resync_stage_behind_counts Wait = refl
+resync_stage_behind_counts Fault = refl
+resync_stage_behind_counts (NoAck seen) = refl
+
+-- in a stretch a transaction that was acknowledged is reported where another one follows directly
+followed_tx_moves : (over : Overrun) (front follower : WholeTx) (bits next : List Bool)
+    → IsTxSight over.phases front.tx front.len bits → resync_is_acknowledged front.tx.result ≡ true
+    → length bits ≡ front.len → IsTxSight false follower.tx follower.len next
+    → ResyncMove over false (Stretch 0) (bits ++ next) (stretch_fate_move over front.tx front.len Reported)
+followed_tx_moves over front follower bits next seen known whole follows =
+    stretch_tx_moves over false front.tx front.len Reported (bits ++ next)
+    (tx_sight_more over.phases front.tx front.len bits next seen) tt
+    (λ more may. stretch_reports_followed_tx over front.tx front.len ((bits ++ next) ++ more)
+    (ap (λ x. stretch_after_tx front.tx.result (drop front.len x)) (append_assoc bits next more)
+    ∙ ap (stretch_after_tx front.tx.result) (drop_at bits (next ++ more) front.len whole)
+    ∙ stretch_goes_on_before_tx front.tx.result follower.tx follower.len next more known follows))
+
+-- so the reading of both is that part, and the reading of the bits from the other one on
+pub resync_followed_tx_told : (over : Overrun) (front follower : WholeTx) (bits next : List Bool) (m : Move)
+    (part : Part) → IsTxSight over.phases front.tx front.len bits → resync_is_acknowledged front.tx.result ≡ true
+    → length bits ≡ front.len → IsTxSight false follower.tx follower.len next
+    → m ≡ stretch_fate_move over front.tx front.len Reported → m.part ≡ Some part → (more : List Bool)
+    → parts_at_stage over (Stretch 0) (bits ++ (next ++ more)) ≡ part ∷ parts_at_stage m.over m.stage (next ++ more)
+resync_followed_tx_told over front follower bits next m part seen known whole follows same is more =
+    let moves : ResyncMove over false (Stretch 0) (bits ++ next) m =
+    subst (ResyncMove over false (Stretch 0) (bits ++ next)) (sym same)
+    (followed_tx_moves over front follower bits next seen known whole follows) in
+    let behind : drop m.count (bits ++ next) ≡ next = ap (λ m. drop m.count (bits ++ next)) same
+    ∙ drop_at bits next front.len whole in
+    ap (parts_at_stage over (Stretch 0)) (sym (append_assoc bits next more)) ∙ moves.law more (λ e. absurd cc)
+    ∙ ap (λ x. resync_with_part m.part (parts_at_stage m.over m.stage (x ++ more))) behind
+    ∙ ap (λ p. resync_with_part p (parts_at_stage m.over m.stage (next ++ more))) is

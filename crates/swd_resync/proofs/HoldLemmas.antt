@@ -1,16 +1,16 @@
 -- Where few bits are held behind some of the first ones, few are held behind the run of zeros.
 use Rattle.std.proofs.Common.{◌≡◌, ◌+◌, ◌<◌, ◌≤◌, Bool, true, false, List, [], ◌∷◌, ◌++◌, length, drop}
 use Rattle.std.proofs.Common.{replicate, arith, ap, ◌∙◌, subst, inl, inr}
-use Rattle.std.specs.Prelude.{Option, Some, None, IfSome, IfNone}
+use Rattle.std.specs.Prelude.{ℕ, ◌==◌, Option, Some, None, IfSome, IfNone}
 use Rattle.std.proofs.lemmas.List.{length-append, drop-append-le}
-use Rattle.std.proofs.lemmas.Bool.{cases_lt}
+use Rattle.std.proofs.lemmas.Bool.{cases_lt, eqb-true}
 use Rattle.swd_bits.specs.Bits.{low_bits}
 use Rattle.swd_bits.proofs.BitsLemmas.{length-low_bits}
 use Rattle.swd_resync.specs.declared.queue.Queue.{Queue}
 use Rattle.swd_resync.specs.Parts.{past_zeros}
 use Rattle.swd_resync.specs.Queues.{resync_queued, IsResyncHeld}
 use Rattle.swd_resync.specs.Holding.{IsResyncNear}
-use Rattle.swd_resync.proofs.QueueLemmas.{resync_past_run, resync_past_alone}
+use Rattle.swd_resync.proofs.QueueLemmas.{resync_past_run, resync_past_alone, resync_queue_none_behind, resync_queue_alone}
 
 -- a fact that holds where a result is None may be replaced by one that follows from it
 pub resync_if_none_weaker : {A : Type 0} (r : Option A) (P Q : Type 0) → (P → Q) → IfNone r P → IfNone r Q
@@ -72,4 +72,15 @@ resync_held_empty q h =
     length-append (replicate q.zeros false) back in
     let l : length front ≡ q.front_len = length-low_bits q.front_len q.front in
     let m : length back ≡ q.back_len = length-low_bits q.back_len q.back in
+    omega arith
+
+-- where so few bits are in the front, these are all
+pub resync_held_len_is : (q : Queue) → IsResyncHeld q → (len : ℕ) → len ≤ 50 → (q.front_len == len) ≡ true
+    → length (resync_queued q) ≡ len
+resync_held_len_is q held len few same =
+    let e : q.front_len ≡ len = eqb-true q.front_len len same in
+    let none = resync_queue_none_behind q held.full (omega arith) in
+    let l : length (resync_queued q) ≡ q.front_len =
+    ap length (resync_queue_alone q.front_len q.front q.zeros q.back_len q.back none)
+    ∙ length-low_bits q.front_len q.front in
     omega arith

@@ -1,6 +1,12 @@
 -- What a decoder of captures has read.
-use Rattle.std.specs.Prelude.{◌≡◌, ℕ, ◌+◌, ◌*◌, ◌<◌, Bool, true, false, List, [], ◌++◌, length, drop}
+use Rattle.std.specs.Prelude.{◌≡◌, ℕ, ◌+◌, ◌*◌, ◌<◌, ◌≤◌, Bool, true, false, List, [], ◌∷◌, ◌++◌, length, drop}
+use Rattle.swd_bits.specs.Bits.{low_bits}
 use Rattle.swd_resync.specs.declared.part.Part.{Part}
+use Rattle.swd_resync.specs.declared.part.FollowedPart.{FollowedPart}
+use Rattle.swd_resync.specs.declared.stage.RemovalStage.TheVariants.{Stretch}
+use Rattle.swd_resync.specs.declared.stage.WholeTx.{WholeTx}
+use Rattle.swd_resync.specs.Fronts.{resync_is_acknowledged}
+use Rattle.swd_resync.specs.Sights.{IsTxSight}
 use Rattle.swd_resync.specs.declared.stage.Move.{Move}
 use Rattle.swd_resync.specs.declared.decoder.CaptureDecoder.{CaptureDecoder}
 use Rattle.swd_resync.specs.Parts.{resync_parts_of}
@@ -43,3 +49,20 @@ pub record IsResyncDecoderStep (old : CaptureDecoder) (step : Move) (new : Captu
 pub record ResyncEnds (ended : Bool) (d : CaptureDecoder) : Type 0 where
   pub near : ended ≡ false → IsResyncNear 92 (resync_held d.held)
   pub none : ended ≡ true → resync_rest d [] ≡ []
+
+-- nothing is held but a transaction of a stretch, which was acknowledged
+pub record IsResyncAlone (d : CaptureDecoder) (front : WholeTx) : Type 0 where
+  pub stage : d.stage ≡ Stretch 0
+  pub seen : IsTxSight d.over.phases front.tx front.len (resync_held d.held)
+  pub acknowledged : resync_is_acknowledged front.tx.result ≡ true
+  pub whole : length (resync_held d.held) ≡ front.len
+
+-- a transaction is taken from new bits, and the part before it is returned
+pub record ResyncTakesTx (old new : CaptureDecoder) (bits count : ℕ) (found : FollowedPart) : Type 0 where
+  pub some : 0 < found.taken
+  pub most : found.taken ≤ count
+  pub gives : (more : List Bool)
+      → resync_rest old (low_bits found.taken bits ++ more) ≡ found.part ∷ resync_rest new more
+  pub settled : ResyncSettled new
+  pub held : resync_held_len new < 142
+  pub fed : resync_fed new ≡ resync_fed old + found.taken

@@ -4,10 +4,12 @@ ghost use Rattle.swd_resync.specs.Fronts.{IsResyncFront};
 ghost use Rattle.swd_resync.specs.Holding.{resync_held};
 
 use crate::held::HeldBits;
-use crate::moves::next_move;
+use crate::look::whole_tx;
+use crate::moves::{followed_step, is_acknowledged, next_move};
 use crate::overrun::Overrun;
-use crate::part::Part;
+use crate::part::{FollowedPart, Part};
 use crate::stage::{RemovalStage, Step, WholeTx};
+use swd_bits::MOVED_BITS;
 
 /// A decoder of captures. It takes one bit at a time, and returns parts that no later bits can change. How
 /// the bits are divided into calls makes no difference.
@@ -48,6 +50,7 @@ impl CaptureDecoder {
     ghost use Rattle.swd_resync.specs.Holding.{ResyncTakesMany};
     ghost use Rattle.swd_resync.specs.Decoding.{resync_rest, ResyncHasRead, resync_fed, resync_steps_left};
     ghost use Rattle.swd_resync.specs.Decoding.{ResyncSettled, resync_held_len, IsResyncDecoderStep, ResyncEnds};
+    ghost use Rattle.swd_resync.specs.Decoding.{ResyncTakesTx, IsResyncAlone};
     ghost use Rattle.swd_bits.specs.Bits.{low_bits};
     ghost use Rattle.swd_resync.specs.declared.part.Part;
 
@@ -116,6 +119,73 @@ impl CaptureDecoder {
         let taken = self.held.push_many(bits, count);
         self.fed += u64::from(taken);
         taken
+    }
+
+    /// Takes a whole transaction from the lowest `count` bits of `bits`, the least significant of which is first in time,
+    /// where it holds nothing but a transaction. Returns that one, which is the next part, as no later bits can change
+    /// it. `None` says nothing about the bits, and changes nothing.
+    ///
+    /// `take_bits` and `due` find the same parts. This call is faster where whole transactions follow one another.
+    pub fn take_tx(&mut self, bits: u64, count: u8) -> Option<FollowedPart>
+        requires within { count ≤ 64 }
+        requires room { resync_fed self.old + count < 2 ^ 64 }
+        ensures part { IfSome result (λ found. ResyncTakesTx self.old self.new bits count found) }
+        ensures read { IfSome result (λ found. (over : Bool) (before : List Bool) (parts : List Part)
+            → ResyncHasRead over self.old before parts
+            → ResyncHasRead over self.new (before ++ low_bits found.taken bits) (parts ++ found.part ∷ [])) }
+        ensures none { IfNone result (self.new ≡ self.old) }
+    {
+        let Some(front) = self.held_alone() else {
+            return None;
+        };
+        let Some(follower) = whole_tx(bits, count) else {
+            return None;
+        };
+        let step = followed_step(self.over, &front, follower);
+        let Some(part) = step.next.part else {
+            return None;
+        };
+        let taken = follower.len;
+        self.held = HeldBits::of(bits, taken);
+        self.over = step.next.over;
+        self.stage = step.next.stage;
+        self.front = step.behind;
+        self.fed += u64::from(taken);
+        Some(FollowedPart { part, taken })
+    }
+
+    /// Returns how many bits `take_bits` is best given next, 1 to 64. With these, where transactions follow one another, a
+    /// whole one comes to be held alone, as `take_tx` wants it.
+    pub fn wanted_bits(&self) -> u8
+        ensures some { 0 < result }
+        ensures most { result ≤ 64 }
+    {
+        let Some(front) = self.front else {
+            return 64;
+        };
+        let behind = self.held.len_behind(front.len);
+        if behind > 0 && behind < MOVED_BITS {
+            MOVED_BITS - behind
+        } else {
+            64
+        }
+    }
+
+    // Returns the transaction that it holds, if it was acknowledged and no other bits are held.
+    fn held_alone(&self) -> Option<WholeTx>
+        ensures { IfSome result (λ front. IsResyncAlone self.now front) }
+    {
+        let RemovalStage::Stretch(0) = self.stage else {
+            return None;
+        };
+        let Some(front) = self.front else {
+            return None;
+        };
+        if is_acknowledged(&front.tx) && self.held.has_len(front.len) {
+            Some(front)
+        } else {
+            None
+        }
     }
 
     /// Returns the next part, which no later bits can change. Returns `None` if it needs more bits. Fewer

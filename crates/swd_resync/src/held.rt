@@ -16,7 +16,7 @@ pub(crate) struct HeldBits {
 
 impl HeldBits {
     ghost use Rattle.std.specs.Prelude.{◌≡◌, ◌⊎◌, ◌+◌, ◌-◌, ◌^◌, ◌<◌, ◌≤◌, List, Bool, [], ◌∷◌, ◌++◌, length, drop};
-    ghost use Rattle.std.specs.Prelude.{replicate, IfSome, IfNone};
+    ghost use Rattle.std.specs.Prelude.{true, replicate, IfSome, IfNone};
     ghost use Rattle.swd_bits.specs.Bits.{low_bits};
     ghost use Rattle.swd_bits.specs.BitLists.{tx_bits_of, IsWellFormedTxBits};
     ghost use Rattle.swd_resync.specs.Parts.{past_zeros};
@@ -30,6 +30,30 @@ impl HeldBits {
         HeldBits {
             queue: Queue::new(),
         }
+    }
+
+    /// Returns the lowest `count` bits, the least significant first.
+    pub(crate) fn of(bits: u64, count: u8) -> HeldBits
+        requires most { count ≤ 50 }
+        ensures bits { resync_held result ≡ low_bits count bits }
+        ensures room { resync_behind_run result ≡ 0 }
+    {
+        HeldBits {
+            queue: Queue::new().with_front(u128::from(bits), count),
+        }
+    }
+
+    /// Returns whether so many bits are held.
+    pub(crate) fn has_len(&self, len: u8) -> bool
+        requires most { len ≤ 50 }
+        ensures { result ≡ true → length (resync_held self.now) ≡ len }
+    {
+        self.queue.front_len == len
+    }
+
+    /// Returns how many bits are held behind the first `len`, apart from the run of zeros and the bits behind it.
+    pub(crate) fn len_behind(&self, len: u8) -> u8 {
+        self.queue.front_len.saturating_sub(len)
     }
 
     /// Appends a bit.

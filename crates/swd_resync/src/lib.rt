@@ -19,4 +19,4 @@ pub use laws::{
     a_pair_is_found, parts_divide_a_capture, places_are_kept, tests_of_a_capture,
     what_is_never_lost_is_told,
 };
-pub use part::{PHASE_BITS, Part};
+pub use part::{FollowedPart, PHASE_BITS, Part};

@@ -1,13 +1,15 @@
 //! What held bits begin with.
-ghost use Rattle.std.specs.Prelude.{◌≡◌, ◌%◌, ◌<◌, ◌≤◌, true, false, List, Bool, [], ◌++◌, ◌&&◌, replicate};
+ghost use Rattle.std.specs.Prelude.{◌≡◌, ◌%◌, ◌<◌, ◌≤◌, true, false, List, Bool, [], ◌++◌, ◌&&◌, replicate, IfSome};
+ghost use Rattle.swd_bits.specs.Bits.{low_bits};
 ghost use Rattle.swd_bits.specs.BitLists.{tx_bits_of, IsWellFormedTxBits};
 ghost use Rattle.swd_trace.specs.Reading.{trace_all_ones};
 ghost use Rattle.swd_resync.specs.Parts.{resync_is_refusal};
 ghost use Rattle.swd_resync.specs.Holding.{resync_held};
-ghost use Rattle.swd_resync.specs.Sights.{IsSight};
+ghost use Rattle.swd_resync.specs.Sights.{IsSight, IsTxSight};
 
 use crate::held::{HeldBits, WINDOW_BITS};
 use crate::sight::Sight;
+use crate::stage::WholeTx;
 use swd_bits::{MOVED_BITS, Tx, TxBits, TxEnd};
 use swd_trace::{Front, front_of};
 
@@ -54,6 +56,22 @@ fn seen(over: bool, ended: bool, window: TxBits) -> Sight
             }
             Sight::Tx(tx, MOVED_BITS)
         }
+    }
+}
+
+/// Returns the transaction at the front of `count` bits, if it finds a whole one. No data phase follows its WAIT or FAULT.
+pub(crate) fn whole_tx(bits: u64, count: u8) -> Option<WholeTx>
+    ensures within { IfSome result (λ found. found.len ≤ count) }
+    ensures sight { IfSome result (λ found. IsTxSight false found.tx found.len (low_bits found.len bits)) }
+{
+    let len = count.min(WINDOW_BITS);
+    let window = bits & ((1 << len) - 1);
+    if window % 2 == 0 {
+        return None;
+    }
+    match front_of(window, len) {
+        Front::Whole(tx, len) => Some(WholeTx { tx, len }),
+        Front::Begun(_) | Front::Broken => None,
     }
 }
 

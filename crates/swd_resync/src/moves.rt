@@ -238,15 +238,15 @@ fn tx_step(over: Overrun, ended: bool, front: &WholeTx, held: &HeldBits) -> Opti
     }
 }
 
-// Returns whether OK, WAIT or FAULT ended a transaction.
-fn is_acknowledged(tx: &Tx) -> bool
+/// Returns whether OK, WAIT or FAULT ended a transaction.
+pub(crate) fn is_acknowledged(tx: &Tx) -> bool
     ensures { result ≡ resync_is_acknowledged tx.now.result }
 {
     !matches!(&tx.result, TxEnd::NoAck(_))
 }
 
-// Reports a transaction that another follows directly. That one was seen as without overrun detection.
-fn followed_step(over: Overrun, front: &WholeTx, follower: WholeTx) -> Step
+/// Reports a transaction that another follows directly. That one was seen as without overrun detection.
+pub(crate) fn followed_step(over: Overrun, front: &WholeTx, follower: WholeTx) -> Step
     ensures next { result.next ≡ stretch_fate_move over front.now.tx front.now.len TxFate.Reported }
     ensures behind { (bits : List Bool) → IsTxSight false follower.tx follower.len bits
         → IsResyncFront result.next.over.phases result.behind bits }

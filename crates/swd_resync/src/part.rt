@@ -21,6 +21,15 @@ pub enum Part {
     Skip(u64),
 }
 
+/// A part that a transaction follows directly, whose bits were taken.
+#[derive(Clone, Copy, Debug, PartialEq, Eq)]
+pub struct FollowedPart {
+    /// The part.
+    pub part: Part,
+    /// The number of bits of the transaction after it.
+    pub taken: u8,
+}
+
 impl Part {
     ghost use Rattle.swd_resync.specs.PartTexts.{resync_part_line};
 

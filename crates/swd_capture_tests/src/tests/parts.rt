@@ -72,7 +72,33 @@ fn lines_at_once(alloc: Global, over: bool, bits: &[u8]) -> Result<String, Alloc
     Ok(text)
 }
 
-// Compares the lines of each capture, read bit by bit, and many bits at once.
+// The same lines, from a decoder that takes whole transactions where it can. Returns how many it took, too.
+fn lines_by_tx(alloc: Global, over: bool, bits: &[u8]) -> Result<(String, u64), AllocError> {
+    let mut decoder = CaptureDecoder::new(over);
+    let mut text = String::new(alloc);
+    let mut index = 0;
+    let mut whole: u64 = 0;
+    while index < bits.len() && decoder.fed() < u64::MAX - 64 {
+        let (number, count) = number_of(&bits[index..]);
+        if let Some(found) = decoder.take_tx(number, count) {
+            push_part(&mut text, &found.part)?;
+            index += usize::from(found.taken);
+            whole = whole.saturating_add(1);
+            continue;
+        }
+        let wanted = decoder.wanted_bits().min(count);
+        index += usize::from(decoder.take_bits(number, wanted));
+        while let Some(part) = decoder.due() {
+            push_part(&mut text, &part)?;
+        }
+    }
+    while let Some(end) = decoder.last() {
+        push_part(&mut text, &end)?;
+    }
+    Ok((text, whole))
+}
+
+// Compares the lines of each capture, read bit by bit, many bits at once, and by whole transactions.
 fn expect_lines<R: Abort>(rt: &R, alloc: Global, rows: &[Row]) -> Result<(), Fail> {
     for row in rows {
         let bits = row.bits.as_bytes();
@@ -80,6 +106,8 @@ fn expect_lines<R: Abort>(rt: &R, alloc: Global, rows: &[Row]) -> Result<(), Fai
         expect_eq_at(rt, &row.name, &lines.as_str(), &row.lines);
         let at_once = lines_at_once(alloc, row.over, bits)?;
         expect_eq_at(rt, &row.name, &at_once.as_str(), &row.lines);
+        let (by_tx, _) = lines_by_tx(alloc, row.over, bits)?;
+        expect_eq_at(rt, &row.name, &by_tx.as_str(), &row.lines);
     }
     Ok(())
 }
@@ -92,4 +120,21 @@ fn worked_captures(rt: HostRuntime) -> Result<(), Fail> {
 #[test]
 fn worked_data_phases(rt: HostRuntime) -> Result<(), Fail> {
     expect_lines(&rt, rt.alloc(), PHASE_ROWS)
+}
+
+// A read of DPIDR, four times. Once one is held alone, `take_tx` takes the next.
+#[test]
+fn a_transaction_follows_another(rt: HostRuntime) -> Result<(), Fail> {
+    let mut bits = Vec::new(rt.alloc());
+    for _ in 0..4 {
+        bits.extend_from_slice(b"1010010111001110111000101000000001011101010001")?;
+    }
+    let (lines, whole) = lines_by_tx(rt.alloc(), false, bits.as_slice())?;
+    let line = "dp 0 read ok 2ba01477\n";
+    assert_eq!(rt;
+        lines.as_str(),
+        format!(in rt.alloc(); "{line}{line}{line}{line}")?.as_str()
+    );
+    assert_eq!(rt; whole, 2);
+    Ok(())
 }

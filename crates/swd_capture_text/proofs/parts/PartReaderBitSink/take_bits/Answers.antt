@@ -1,8 +1,23 @@
-use Rattle.std.proofs.Common.{◌++◌, arith}
+use Rattle.std.proofs.Common.{[], ◌∷◌, ◌++◌, arith}
 use Rattle.swd_bits.specs.Bits.{low_bits}
 use Rattle.swd_bits.proofs.BitsLemmas.{length-low_bits}
-use Rattle.swd_capture_text.proofs.PartLemmas.{parts_gather_bits}
+use Rattle.swd_capture_text.proofs.PartLemmas.{parts_gather_bits, parts_gather_followed}
 use Rattle.swd_capture_text.proofs.parts.PartReaderBitSink.take_bits.Goals as goal
+
+pub returns-in-Some-clause-led : goal.returns-in-Some-clause-led
+returns-in-Some-clause-led g c = λ start before h.
+    let n = c.in-Some.found.taken in
+    let next = low_bits n c.args.bits in
+    let most = c.in-Some.ensures.most in
+    let has = c.in-Some.ensures.has start.reading before h.parts in
+    record {
+      parts = h.parts ++ c.in-Some.found.part ∷ [];
+      gathers = parts_gather_followed g.K.PartSink.led g.met.K.PartSink.led_on start c.args.self.now.source
+          c.take_tx.new.self (c.args.self.now.sink, c.args.writer.now) (c.take_part.new.self, c.take_part.new.writer)
+          before next h.parts (c.in-Some.found.part ∷ []) n (λ x. (has x).0) c.in-Some.ensures.fed
+          (length-low_bits n c.args.bits) (omega arith) c.take_part.ensures h.gathers;
+      decides = (has h.gathers.has).1;
+    }
 
 pub returns-clause-led : goal.returns-clause-led
 returns-clause-led g c = λ start before h.
