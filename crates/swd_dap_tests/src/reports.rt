@@ -4,8 +4,8 @@ use crate::row::{Wrong, has, put_bytes, said, want};
 use std::alloc::Global;
 use swd_dap::{Packets, Reports};
 
-/// Exchanges a packet of one byte for the bytes that come back. Compares how long the reply is, or why there is none, and
-/// how many bytes were sent.
+/// Exchanges a packet of one byte for the bytes that come back. Compares how long the reply is, or why there is none,
+/// and how many bytes were sent.
 pub fn come<'t>(alloc: Global, lines: &'t str) -> Result<(), Wrong<'t>> {
     let mut comes = Vec::new(alloc);
     put_bytes(&mut comes, said(lines, "<").unwrap_or(""))?;
