@@ -9,8 +9,9 @@
 ///   | STEPS   those of a case, which stand where a step is `case`: the row is tried once for each
 ///
 /// A step is a request, and behind it the word that is read or written with OK (`filler` is an unknown one), `damaged`
-/// if a bit of the word that is written arrives changed, or how the request is answered; with `held` before it where WAIT
-/// is asked for. Or it is `line reset`; `word ADDR WORD`: the memory has this word there; `no transfer`: none was logged.
+/// if a bit of the word that is written arrives changed, or how the request is answered; with `held` before it where
+/// WAIT is asked for. Or it is `line reset`; `word ADDR WORD`: the memory has this word there; `no transfer`: none was
+/// logged.
 pub(super) const ROWS: &str = "\
 only DPIDR is answered after a line reset
 cold
