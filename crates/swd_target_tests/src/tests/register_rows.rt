@@ -3,8 +3,7 @@
 /// A row is a paragraph: its name, and lines that begin with
 ///
 ///   over BASE WORDS wraps|carries [IDR]    the memory; else it has 16 words from 20000000, and TAR wraps
-///   cold      the steps are those from the start; else they are behind a line reset, DPIDR, power, and a CSW with
-///             auto-increment
+///   cold      nothing comes before the steps; else a line reset, DPIDR, power, and a CSW with auto-increment do
 ///   - STEPS   one after the other, with commas between
 ///   | STEPS   those of a case, which stand where a step is `case`: the row is tried once for each
 ///

@@ -269,9 +269,17 @@ fn row_goes<R: Abort>(rt: &R, alloc: Global, row: &str, case: &str) -> Result<()
     Ok(())
 }
 
+// Whether this says something of a row, or nothing: any other line is its name.
+fn is_said(line: &str) -> bool {
+    let words = ["- ", "| ", "over ", "# "];
+    line == "cold" || words.iter().any(|it| line.starts_with(*it))
+}
+
 #[test]
 fn registers_go_as_their_rows_say(rt: HostRuntime) -> Result<(), Fail> {
     for row in ROWS.split("\n\n") {
+        let names = row.lines().filter(|line| !is_said(line)).count();
+        expect_at(&rt, &row, names == 1);
         let mut cases = 0u32;
         for case in row.lines().filter_map(|line| line.strip_prefix("| ")) {
             row_goes(&rt, rt.alloc(), row, case)?;
