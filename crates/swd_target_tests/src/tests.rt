@@ -11,4 +11,5 @@ mod marks;
 mod memory;
 mod recorded;
 mod refusals;
+mod register_rows;
 mod registers;

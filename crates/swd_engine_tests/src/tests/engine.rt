@@ -9,54 +9,6 @@ use swd_port::{Access, Answer, Cue, Due, Wire};
 use swd_simulated::{QUIRKS, READ, RUN, WRITE, target_of};
 use swd_target::{Bench, Memory};
 
-/// What an engine is told, and what it has to say then.
-#[derive(Clone, Copy)]
-pub(super) enum Turn {
-    /// Its lead was sent.
-    Led,
-    /// This is seen after the request that is its cue.
-    Seen(u8),
-    /// This word is read, where its cue is to take one.
-    Taken(u32),
-    /// The turnaround, where that is its cue.
-    Passed,
-    /// The request that is its cue is answered OK, a read with this word.
-    Answered(u32),
-    /// Its lead was sent and its opening answered OK, with this word for CSW.
-    Opened(u32),
-    /// The access is begun, with the one that follows it.
-    Starts(Access, Option<Access>),
-    /// The request with this byte is its cue, and this word is read, or written.
-    Moves(u8, u32),
-    /// The request with this byte is its cue, and a word is read, with wrong parity.
-    Damaged(u8),
-    /// The request with this byte is its cue, and gets FAULT.
-    Faults(u8),
-    /// The request with this byte is its cue, and gets WAIT.
-    Waits(u8),
-    /// Its cue, where it has one.
-    Cue(Option<Cue>),
-    /// The byte of the request that is its cue.
-    Asks(u8),
-    /// What it has come to.
-    Finished(Option<Outcome>),
-    /// How many accesses are begun.
-    Begun(u8),
-    /// How many requests were sent.
-    Requests(u64),
-}
-
-/// An engine with so many tries, and its turns, piece by piece.
-#[derive(Clone, Copy)]
-pub(super) struct Row {
-    pub(super) name: &'static str,
-    pub(super) tries: u32,
-    pub(super) turns: &'static [&'static [Turn]],
-}
-
-// The name of a row, the piece, and the turn in it.
-type Place = (&'static str, usize, usize);
-
 /// What is seen after the request that is its cue.
 pub(super) fn seen(engine: &mut Engine, seen: u8) {
     if let Some(Cue::Ask(_)) = engine.cue() {
@@ -127,270 +79,258 @@ fn asked(engine: &Engine) -> u8 {
     }
 }
 
-// The request with this byte is its cue, and this is seen after it. A turnaround goes by.
-fn asks<R: Abort>(rt: &R, place: &Place, engine: &mut Engine, byte: u8, number: u8) {
-    expect_eq_at(rt, place, &asked(engine), &byte);
-    seen(engine, number);
-    passed(engine);
-}
-
-// The word of the data phase that is due.
-fn moves<R: Abort>(rt: &R, place: &Place, engine: &mut Engine, word: u32) {
-    match engine.cue() {
-        Some(Cue::Take) => engine.taken(data_bits(word)),
-        Some(Cue::Give(bits)) => {
-            expect_eq_at(rt, place, &bits, &data_bits(word));
-            engine.done();
-        }
-        _ => expect_at(rt, place, false),
-    }
-}
-
 // A word with wrong parity, where its cue is to take one.
-fn damaged(engine: &mut Engine) {
+fn damaged(engine: &mut Engine) -> bool {
+    let takes = engine.cue() == Some(Cue::Take);
     if let Some(Cue::Take) = engine.cue() {
         engine.taken(0x1_0000_0000);
     }
+    takes
 }
 
-fn goes<R: Abort>(rt: &R, place: &Place, engine: &mut Engine, turn: Turn) {
-    match turn {
-        Turn::Led => lead(engine),
-        Turn::Seen(number) => seen(engine, number),
-        Turn::Taken(word) => taken(engine, word),
-        Turn::Passed => passed(engine),
-        Turn::Answered(word) => answered(engine, word),
-        Turn::Opened(csw) => *engine = opened(*engine, csw),
-        Turn::Starts(access, following) => {
-            expect_at(rt, place, starts(engine, access, following));
+// The word of the data phase that is due.
+fn moves(engine: &mut Engine, word: u32) -> bool {
+    match engine.cue() {
+        Some(Cue::Take) => {
+            engine.taken(data_bits(word));
+            true
         }
-        Turn::Moves(byte, word) => {
-            asks(rt, place, engine, byte, 1);
-            moves(rt, place, engine, word);
+        Some(Cue::Give(bits)) => {
+            engine.done();
+            bits == data_bits(word)
         }
-        Turn::Damaged(byte) => {
-            asks(rt, place, engine, byte, 1);
-            damaged(engine);
-        }
-        Turn::Faults(byte) => asks(rt, place, engine, byte, 4),
-        Turn::Waits(byte) => asks(rt, place, engine, byte, 2),
-        Turn::Cue(cue) => expect_eq_at(rt, place, &engine.cue(), &cue),
-        Turn::Asks(byte) => expect_eq_at(rt, place, &asked(engine), &byte),
-        Turn::Finished(outcome) => expect_eq_at(rt, place, &engine.finished(), &outcome),
-        Turn::Begun(count) => expect_eq_at(rt, place, &engine.begun(), &count),
-        Turn::Requests(count) => expect_eq_at(rt, place, &engine.requests(), &count),
+        _ => false,
     }
 }
 
+fn word_in(text: &str) -> Option<u32> {
+    u32::from_str_radix(text, 16).ok()
+}
+
+// The byte of a request, as `dp 4 read`.
+fn byte_in(text: &str) -> Option<u8> {
+    let (port, rest) = text.split_once(" ")?;
+    let (addr, way) = rest.split_once(" ")?;
+    let request = Request {
+        ap: port == "ap",
+        read: way == "read",
+        addr: match addr {
+            "0" => Reg4::R0,
+            "4" => Reg4::R4,
+            "8" => Reg4::R8,
+            "c" => Reg4::RC,
+            _ => return None,
+        },
+    };
+    Some(request.bits())
+}
+
+// An access, as `r 20000000` or `w 20000000 5`.
+fn access_in(text: &str) -> Option<Access> {
+    let (way, rest) = text.split_once(" ")?;
+    if way == "r" {
+        return Some(Access::Read(word_in(rest)?));
+    }
+    let (addr, word) = rest.split_once(" ")?;
+    Some(Access::Write(word_in(addr)?, word_in(word)?))
+}
+
+fn outcome_in(text: &str) -> Option<Outcome> {
+    match text {
+        "opened" => Some(Outcome::Opened),
+        "written" => Some(Outcome::Answered(Answer::Written)),
+        "busfault" => Some(Outcome::Answered(Answer::BusFault)),
+        "lost" => Some(Outcome::Stopped(End::Lost)),
+        "tries" => Some(Outcome::Stopped(End::TriesOut)),
+        "confused" => Some(Outcome::Stopped(End::Confused)),
+        _ => {
+            let id = word_in(text.strip_prefix("id ")?)?;
+            Some(Outcome::Stopped(End::WrongId(id)))
+        }
+    }
+}
+
+// The request that a turn names is the engine's cue, and is answered as the turn says.
+fn meets(engine: &mut Engine, turn: &str) -> Option<bool> {
+    let (request, said) = turn.rsplit_once(" ")?;
+    let is_cue = byte_in(request)? == asked(engine);
+    seen(
+        engine,
+        match said {
+            "faults" => 4,
+            "waits" => 2,
+            _ => 1,
+        },
+    );
+    passed(engine);
+    let went = match said {
+        "faults" | "waits" => true,
+        "damaged" => damaged(engine),
+        _ => moves(engine, word_in(said)?),
+    };
+    Some(is_cue && went)
+}
+
+// What an engine is told with a number.
+fn is_told(engine: &mut Engine, verb: &str, text: &str) -> Option<bool> {
+    let word = word_in(text)?;
+    match verb {
+        "seen" => seen(engine, (word % 8) as u8),
+        "taken" => taken(engine, word),
+        "answered" => answered(engine, word),
+        "opened" => *engine = opened(*engine, word),
+        _ => return None,
+    }
+    Some(true)
+}
+
+// What an engine says, or an access that it begins.
+fn says(engine: &mut Engine, verb: &str, text: &str) -> Option<bool> {
+    match verb {
+        "asks" => Some(byte_in(text)? == asked(engine)),
+        "comes" => Some(Some(outcome_in(text.strip_prefix("to ")?)?) == engine.finished()),
+        "begun" => Some(text.parse::<u8>().ok()? == engine.begun()),
+        "requests" => Some(text.parse::<u64>().ok()? == engine.requests()),
+        "starts" => Some(starts(engine, access_in(text)?, None)),
+        "tries" => {
+            *engine = Engine::new(text.parse::<u32>().ok()?);
+            Some(true)
+        }
+        _ => None,
+    }
+}
+
+// Whether a turn goes as it says; none where it says nothing.
+fn goes(engine: &mut Engine, turn: &str) -> Option<bool> {
+    match turn {
+        "led" => lead(engine),
+        "passed" => passed(engine),
+        "leads" => return Some(engine.cue() == Some(LEAD)),
+        "takes" => return Some(engine.cue() == Some(Cue::Take)),
+        "passes" => return Some(engine.cue() == Some(Cue::Pass)),
+        "idle" => return Some(engine.cue().is_none()),
+        "unfinished" => return Some(engine.finished().is_none()),
+        _ => {
+            let (verb, text) = turn.split_once(" ")?;
+            return match verb {
+                "dp" | "ap" => meets(engine, turn),
+                "seen" | "taken" | "answered" | "opened" => is_told(engine, verb, text),
+                _ => says(engine, verb, text),
+            };
+        }
+    }
+    Some(true)
+}
+
 /// The engine of each row takes its turns, and says what it has to.
-pub(super) fn all_go<R: Abort>(rt: &R, rows: &[Row]) {
-    for row in rows {
-        let mut engine = Engine::new(row.tries);
-        for (piece, turns) in row.turns.iter().enumerate() {
-            for (index, turn) in turns.iter().enumerate() {
-                goes(rt, &(row.name, piece, index), &mut engine, *turn);
+///
+/// A row is a line, its name, and lines that begin with `- `: its turns, with commas between. `@NAME` stands for those
+/// of the line `= NAME: `. A turn is
+///
+///   tries N           another engine, with so many tries; else it has 8
+///   REQUEST WORD      the request is its cue and answered OK, and this word is read, or written
+///   REQUEST damaged|faults|waits    it is its cue, and a word is read with wrong parity, or it is answered so
+///   led, passed       its lead was sent; the turnaround, where that is its cue
+///   seen N, taken WORD, answered WORD    an acknowledgement, a word, or both with OK, where its cue is that
+///   opened WORD       its lead was sent and its opening answered OK, with this word for CSW
+///   starts ACCESS     the access is begun
+///   leads, takes, passes, idle, asks REQUEST    its cue; idle: it has none
+///   comes to OUTCOME, unfinished, begun N, requests N    what it says
+pub(super) fn all_go<R: Abort>(rt: &R, rows: &str) {
+    let mut engine = Engine::new(8);
+    let mut name = "";
+    for line in rows
+        .lines()
+        .filter(|it| !it.starts_with("#") && !it.starts_with("= "))
+    {
+        let Some(turns) = line.strip_prefix("- ") else {
+            name = line;
+            engine = Engine::new(8);
+            continue;
+        };
+        for turn in turns.split(", ") {
+            for part in parts(rows, turn).split(", ") {
+                expect_at(rt, &(name, part), goes(&mut engine, part) == Some(true));
             }
         }
     }
 }
 
-const DPIDR_READ: Request = Request {
-    ap: false,
-    read: true,
-    addr: Reg4::R0,
+// The turns that a name stands for; else the turn.
+fn parts<'t>(rows: &'t str, turn: &'t str) -> &'t str {
+    let Some(name) = turn.strip_prefix("@") else {
+        return turn;
+    };
+    for line in rows.lines().filter_map(|it| it.strip_prefix("= ")) {
+        match line.split_once(": ") {
+            Some((found, turns)) if found == name => return turns,
+            _ => {}
+        }
+    }
+    turn
+}
+
+const LEAD: Cue = Cue::Lead {
+    ones: 56,
+    undriven: 0,
+    switch: true,
+    zeros: 2,
 };
 
-const ABORT_WRITE: Request = Request {
-    ap: false,
-    read: false,
-    addr: Reg4::R0,
-};
-
-/// What an engine has come to that takes a reply for none of a target.
-pub(super) const CONFUSED: Option<Outcome> = Some(Outcome::Stopped(End::Confused));
-
-const LOST: Option<Outcome> = Some(Outcome::Stopped(End::Lost));
-
-// An engine that stopped at its first request.
-const LOST_AT_ONCE: &[Turn] = &[
-    Turn::Finished(LOST),
-    Turn::Cue(None),
-    Turn::Begun(0),
-    Turn::Requests(1),
-];
-
-// An engine that has a turnaround to send, and then stops at its first request.
-const CONFUSED_AT_ONCE: &[Turn] = &[
-    Turn::Cue(Some(Cue::Pass)),
-    Turn::Finished(None),
-    Turn::Passed,
-    Turn::Finished(CONFUSED),
-    Turn::Cue(None),
-    Turn::Begun(0),
-    Turn::Requests(1),
-];
-
-// A write whose confirming request was answered FAULT. CTRL/STAT is read next.
-const REFUSED: &[Turn] = &[
-    Turn::Opened(0x2300_0052),
-    Turn::Starts(WRITE, None),
-    Turn::Answered(0),
-    Turn::Answered(0),
-    Turn::Seen(4),
-    Turn::Passed,
-];
-
-const CONFUSED_IN_A_WRITE: &[Turn] = &[Turn::Finished(CONFUSED), Turn::Cue(None), Turn::Begun(1)];
-
-// An engine that clears a flag.
-const CLEARS_IN_A_WRITE: &[Turn] = &[
-    Turn::Finished(None),
-    Turn::Cue(Some(Cue::Ask(ABORT_WRITE))),
-    Turn::Begun(1),
-];
-
-const OPENED: &[Turn] = &[Turn::Finished(Some(Outcome::Opened)), Turn::Requests(9)];
-
-const CONFUSED_BY_CSW: &[Turn] = &[Turn::Finished(CONFUSED), Turn::Requests(9)];
-
-const ROWS: &[Row] = &[
-    Row {
-        name: "an engine begins with the lead and DPIDR",
-        tries: 8,
-        turns: &[&[
-            Turn::Cue(Some(Cue::Lead {
-                ones: 56,
-                undriven: 0,
-                switch: true,
-                zeros: 2,
-            })),
-            Turn::Led,
-            Turn::Cue(Some(Cue::Ask(DPIDR_READ))),
-            Turn::Finished(None),
-            Turn::Requests(0),
-        ]],
-    },
-    Row {
-        name: "an engine stops where an acknowledgement of 0 is seen first",
-        tries: 8,
-        turns: &[&[Turn::Led, Turn::Seen(0)], LOST_AT_ONCE],
-    },
-    Row {
-        name: "an engine stops where an acknowledgement of 3 is seen first",
-        tries: 8,
-        turns: &[&[Turn::Led, Turn::Seen(3)], LOST_AT_ONCE],
-    },
-    Row {
-        name: "an engine stops where an acknowledgement of 5 is seen first",
-        tries: 8,
-        turns: &[&[Turn::Led, Turn::Seen(5)], LOST_AT_ONCE],
-    },
-    Row {
-        name: "an engine stops where an acknowledgement of 6 is seen first",
-        tries: 8,
-        turns: &[&[Turn::Led, Turn::Seen(6)], LOST_AT_ONCE],
-    },
-    Row {
-        name: "an engine stops where an acknowledgement of 7 is seen first",
-        tries: 8,
-        turns: &[&[Turn::Led, Turn::Seen(7)], LOST_AT_ONCE],
-    },
-    Row {
-        name: "an engine stops where WAIT is seen first",
-        tries: 8,
-        turns: &[&[Turn::Led, Turn::Seen(2)], CONFUSED_AT_ONCE],
-    },
-    Row {
-        name: "an engine stops where FAULT is seen first",
-        tries: 8,
-        turns: &[&[Turn::Led, Turn::Seen(4)], CONFUSED_AT_ONCE],
-    },
-    Row {
-        name: "an engine goes on where OK is seen first",
-        tries: 8,
-        turns: &[&[
-            Turn::Led,
-            Turn::Seen(1),
-            Turn::Cue(Some(Cue::Take)),
-            Turn::Finished(None),
-            Turn::Requests(1),
-        ]],
-    },
-    Row {
-        name: "an identification whose bit 0 is 0 is wrong",
-        tries: 8,
-        turns: &[&[
-            Turn::Led,
-            Turn::Seen(1),
-            Turn::Taken(0x2ba0_1476),
-            Turn::Finished(Some(Outcome::Stopped(End::WrongId(0x2ba0_1476)))),
-            Turn::Cue(None),
-            Turn::Begun(0),
-            Turn::Requests(1),
-        ]],
-    },
-    Row {
-        name: "an identification whose bit 0 is 1 is right",
-        tries: 8,
-        turns: &[&[
-            Turn::Led,
-            Turn::Seen(1),
-            Turn::Taken(0x2ba0_1477),
-            Turn::Finished(None),
-            Turn::Cue(Some(Cue::Ask(ABORT_WRITE))),
-        ]],
-    },
-    Row {
-        name: "an opening ends by the fields of CSW",
-        tries: 8,
-        turns: &[&[Turn::Opened(0x2300_0052)], OPENED],
-    },
-    Row {
-        name: "an opening ends by no other field of CSW",
-        tries: 8,
-        turns: &[&[Turn::Opened(0x0000_0052)], OPENED],
-    },
-    Row {
-        name: "an opening that finds an access port of bytes confuses",
-        tries: 8,
-        turns: &[&[Turn::Opened(0x2300_0050)], CONFUSED_BY_CSW],
-    },
-    Row {
-        name: "an opening that finds no increment confuses",
-        tries: 8,
-        turns: &[&[Turn::Opened(0x2300_0042)], CONFUSED_BY_CSW],
-    },
-    Row {
-        name: "an opening that finds packed increment confuses",
-        tries: 8,
-        turns: &[&[Turn::Opened(0x2300_0062)], CONFUSED_BY_CSW],
-    },
-    Row {
-        name: "an opening that finds a device that isn't enabled confuses",
-        tries: 8,
-        turns: &[&[Turn::Opened(0x2300_0012)], CONFUSED_BY_CSW],
-    },
-    Row {
-        name: "a fault of no flag confuses",
-        tries: 8,
-        turns: &[REFUSED, &[Turn::Answered(0xf000_0000)], CONFUSED_IN_A_WRITE],
-    },
-    Row {
-        name: "a fault of both flags confuses",
-        tries: 8,
-        turns: &[REFUSED, &[Turn::Answered(0xf000_00a0)], CONFUSED_IN_A_WRITE],
-    },
-    Row {
-        name: "a fault of a bus error is cleared",
-        tries: 8,
-        turns: &[REFUSED, &[Turn::Answered(0xf000_0020)], CLEARS_IN_A_WRITE],
-    },
-    Row {
-        name: "a fault of damaged data is cleared",
-        tries: 8,
-        turns: &[REFUSED, &[Turn::Answered(0xf000_0080)], CLEARS_IN_A_WRITE],
-    },
-];
+const ROWS: &str = "\
+# An engine that stopped at its first request.
+= lost at once: comes to lost, idle, begun 0, requests 1
+# An engine that has a turnaround to send, and then stops at its first request.
+= confused at once: passes, unfinished, passed, comes to confused, idle, begun 0, requests 1
+= opened: comes to opened, requests 9
+= confused by csw: comes to confused, requests 9
+# A write whose confirming request was answered FAULT. CTRL/STAT is read next.
+= refused: opened 23000052, starts w 20000000 deadbeef, answered 0, answered 0, seen 4, passed
+= confused in a write: comes to confused, idle, begun 1
+# An engine that clears a flag.
+= clears in a write: unfinished, asks dp 0 write, begun 1
+an engine begins with the lead and DPIDR
+- leads, led, asks dp 0 read, unfinished, requests 0
+an engine stops where an acknowledgement of 0 is seen first
+- led, seen 0, @lost at once
+an engine stops where an acknowledgement of 3 is seen first
+- led, seen 3, @lost at once
+an engine stops where an acknowledgement of 5 is seen first
+- led, seen 5, @lost at once
+an engine stops where an acknowledgement of 6 is seen first
+- led, seen 6, @lost at once
+an engine stops where an acknowledgement of 7 is seen first
+- led, seen 7, @lost at once
+an engine stops where WAIT is seen first
+- led, seen 2, @confused at once
+an engine stops where FAULT is seen first
+- led, seen 4, @confused at once
+an engine goes on where OK is seen first
+- led, seen 1, takes, unfinished, requests 1
+an identification whose bit 0 is 0 is wrong
+- led, seen 1, taken 2ba01476, comes to id 2ba01476, idle, begun 0, requests 1
+an identification whose bit 0 is 1 is right
+- led, seen 1, taken 2ba01477, unfinished, asks dp 0 write
+an opening ends by the fields of CSW
+- opened 23000052, @opened
+an opening ends by no other field of CSW
+- opened 52, @opened
+an opening that finds an access port of bytes confuses
+- opened 23000050, @confused by csw
+an opening that finds no increment confuses
+- opened 23000042, @confused by csw
+an opening that finds packed increment confuses
+- opened 23000062, @confused by csw
+an opening that finds a device that isn't enabled confuses
+- opened 23000012, @confused by csw
+a fault of no flag confuses
+- @refused, answered f0000000, @confused in a write
+a fault of both flags confuses
+- @refused, answered f00000a0, @confused in a write
+a fault of a bus error is cleared
+- @refused, answered f0000020, @clears in a write
+a fault of damaged data is cleared
+- @refused, answered f0000080, @clears in a write";
 
 #[test]
 fn an_engine_does_what_each_reply_asks_for(rt: HostRuntime) {

@@ -2,11 +2,12 @@
 use super::expect::{expect_eq, expect_eq_at};
 use linked_list_allocator::LocalHeap;
 use std::alloc::{Allocator, Global};
-use std::process::Abort;
+use std::fmt;
+use std::fmt::{Display, Formatter};
 use std::test::Fail;
 use swd_io::Consumer;
 use swd_port::{Access, Mark};
-use swd_script::{Expected, PlanReader, Script, ScriptFault, ScriptReader, Until};
+use swd_script::{Batch, PlanReader, Script, ScriptFault, ScriptReader};
 
 /// The script that a text in two pieces says.
 pub(super) fn script_in<A: Allocator + Copy>(
@@ -34,379 +35,147 @@ pub(super) fn plan_in<A: Allocator>(
     reader.finish()
 }
 
-// A call of a script: its accesses, the address of its block, what it waits for, and the words that its reads have to
-// give.
+// A script: where its memory begins, its words, and the room of its log; and behind each `;` a call: the address of a
+// block, the numbers of an `until`, the accesses, and of each read whose word is verified its line, its place among the
+// accesses, its address and the word.
 #[derive(Clone, Copy)]
-struct Call {
-    accesses: &'static [Access],
-    block: Option<u32>,
-    until: Option<Until>,
-    expected: &'static [Expected],
+struct Shown<'s> {
+    script: &'s Script<Global>,
 }
 
-// What a text says.
-#[derive(Clone, Copy)]
-struct Said {
-    name: &'static str,
-    text: &'static [u8],
-    base: u32,
-    words: u32,
-    room: u32,
-    calls: &'static [Call],
-}
-
-// The call of an `until`.
-const WAITS: Call = Call {
-    accesses: &[Access::Read(0x4002_200c)],
-    block: None,
-    until: Some(Until {
-        addr: 0x4002_200c,
-        mask: 1,
-        value: 0,
-        most: 1000,
-    }),
-    expected: &[],
-};
-
-// The same with the greatest numbers.
-const WAITS_LONG: Call = Call {
-    accesses: &[Access::Read(0xffff_fffc)],
-    until: Some(Until {
-        addr: 0xffff_fffc,
-        mask: 0xffff_ffff,
-        value: 0xffff_ffff,
-        most: 1_000_000,
-    }),
-    ..WAITS
-};
-
-// And with the smallest.
-const WAITS_ONCE: Call = Call {
-    accesses: &[Access::Read(0)],
-    until: Some(Until {
-        addr: 0,
-        mask: 0,
-        value: 0,
-        most: 1,
-    }),
-    ..WAITS
-};
-
-// A call of one read.
-const READS: Call = Call {
-    accesses: &[Access::Read(0)],
-    until: None,
-    ..WAITS
-};
-
-// A call without accesses.
-const NOTHING: Call = Call {
-    accesses: &[],
-    ..READS
-};
-
-const SCRIPTS: &[Said] = &[
-    Said {
-        name: "a write and reads",
-        text: b"memory 20000000 16\nw 20000000 deadbeef\nrn 20000000 2\nr 30000000\n",
-        base: 0x2000_0000,
-        words: 16,
-        room: 65536,
-        calls: &[Call {
-            accesses: &[
-                Access::Write(0x2000_0000, 0xdead_beef),
-                Access::Read(0x2000_0000),
-                Access::Read(0x2000_0004),
-                Access::Read(0x3000_0000),
-            ],
-            block: None,
-            until: None,
-            expected: &[],
-        }],
-    },
-    Said {
-        name: "blanks, comments and line ends are passed over",
-        text: b"# a script \xff\x00\r\n\r\n \t \n\tmemory \t20000000  16# of sixteen words\r\nroom 5 #\xff\r\r\n\
-            w\t2000000C\tDeAdBeEf\t\n#\nr 0# and no more\r",
-        base: 0x2000_0000,
-        words: 16,
-        room: 5,
-        calls: &[Call {
-            accesses: &[Access::Write(0x2000_000c, 0xdead_beef), Access::Read(0)],
-            block: None,
-            until: None,
-            expected: &[],
-        }],
-    },
-    Said {
-        name: "numbers of every length",
-        text: b"memory 0 1\nw 4 1\nw 10 aB\nw 100 0aBc\nw 1000 1234567\nw 0000000c FFFFFFFF\n\
-            rn 00000010 0000000002\n",
-        base: 0,
-        words: 1,
-        room: 65536,
-        calls: &[Call {
-            accesses: &[
-                Access::Write(4, 1),
-                Access::Write(0x10, 0xab),
-                Access::Write(0x100, 0xabc),
-                Access::Write(0x1000, 0x123_4567),
-                Access::Write(0xc, 0xffff_ffff),
-                Access::Read(0x10),
-                Access::Read(0x14),
-            ],
-            block: None,
-            until: None,
-            expected: &[],
-        }],
-    },
-    Said {
-        name: "the greatest numbers in range",
-        text: b"memory fffc0000 65536\nroom 65536\nr fffffffc",
-        base: 0xfffc_0000,
-        words: 65536,
-        room: 65536,
-        calls: &[Call {
-            accesses: &[Access::Read(0xffff_fffc)],
-            block: None,
-            until: None,
-            expected: &[],
-        }],
-    },
-    Said {
-        name: "no room, and the last two addresses",
-        text: b"memory 0 1\nroom 0\nrn fffffff8 2",
-        base: 0,
-        words: 1,
-        room: 0,
-        calls: &[Call {
-            accesses: &[Access::Read(0xffff_fff8), Access::Read(0xffff_fffc)],
-            block: None,
-            until: None,
-            expected: &[],
-        }],
-    },
-    Said {
-        name: "a block is the only access line",
-        text: b"memory 20000000 2\nroom 9\n# all of it\nblock 20000000 3\n\n",
-        base: 0x2000_0000,
-        words: 2,
-        room: 9,
-        calls: &[Call {
-            accesses: &[
-                Access::Read(0x2000_0000),
-                Access::Read(0x2000_0004),
-                Access::Read(0x2000_0008),
-            ],
-            block: Some(0x2000_0000),
-            until: None,
-            expected: &[],
-        }],
-    },
-    Said {
-        name: "the reads of a block, apart",
-        text: b"memory 20000000 2\nrn 20000000 3\n",
-        base: 0x2000_0000,
-        words: 2,
-        room: 65536,
-        calls: &[Call {
-            accesses: &[
-                Access::Read(0x2000_0000),
-                Access::Read(0x2000_0004),
-                Access::Read(0x2000_0008),
-            ],
-            block: None,
-            until: None,
-            expected: &[],
-        }],
-    },
-    Said {
-        name: "next begins a further call",
-        text: b"memory 20000000 4\nroom 9\nw 20000000 5\nnext\nblock 20000000 2 # read back\n next\t#\nnext\n\
-            rn 20000004 1\n",
-        base: 0x2000_0000,
-        words: 4,
-        room: 9,
-        calls: &[
-            Call {
-                accesses: &[Access::Write(0x2000_0000, 5)],
-                block: None,
-                until: None,
-                expected: &[],
-            },
-            Call {
-                accesses: &[Access::Read(0x2000_0000), Access::Read(0x2000_0004)],
-                block: Some(0x2000_0000),
-                until: None,
-                expected: &[],
-            },
-            Call {
-                accesses: &[],
-                block: None,
-                until: None,
-                expected: &[],
-            },
-            Call {
-                accesses: &[Access::Read(0x2000_0004)],
-                block: None,
-                until: None,
-                expected: &[],
-            },
-        ],
-    },
-    Said {
-        name: "verify is a read with its word",
-        text: b"memory 20000000 4\nw 20000000 5\nverify 20000000 5\n\nr 20000004\nverify 2000000C DeadBeef\n\
-            next\nverify 20000008 0\n",
-        base: 0x2000_0000,
-        words: 4,
-        room: 65536,
-        calls: &[
-            Call {
-                accesses: &[
-                    Access::Write(0x2000_0000, 5),
-                    Access::Read(0x2000_0000),
-                    Access::Read(0x2000_0004),
-                    Access::Read(0x2000_000c),
-                ],
-                block: None,
-                until: None,
-                expected: &[
-                    Expected {
-                        line: 3,
-                        place: 1,
-                        addr: 0x2000_0000,
-                        word: 5,
-                    },
-                    Expected {
-                        line: 6,
-                        place: 3,
-                        addr: 0x2000_000c,
-                        word: 0xdead_beef,
-                    },
-                ],
-            },
-            Call {
-                accesses: &[Access::Read(0x2000_0008)],
-                block: None,
-                until: None,
-                expected: &[Expected {
-                    line: 8,
-                    place: 0,
-                    addr: 0x2000_0008,
-                    word: 0,
-                }],
-            },
-        ],
-    },
-    Said {
-        name: "hexadecimal numbers may have a prefix",
-        text: b"memory 0x20000000 1\nw 0X2000000C 0xdeadBEEF\nw 0x0 0X00000001\nrn 0x10 2\nr 0x0\n",
-        base: 0x2000_0000,
-        words: 1,
-        room: 65536,
-        calls: &[Call {
-            accesses: &[
-                Access::Write(0x2000_000c, 0xdead_beef),
-                Access::Write(0, 1),
-                Access::Read(0x10),
-                Access::Read(0x14),
-                Access::Read(0),
-            ],
-            block: None,
-            until: None,
-            expected: &[],
-        }],
-    },
-    Said {
-        name: "until is a call of its own",
-        text: b"memory 0 1\nr 0\nuntil 4002200c 1 0 1000\nr 0\n",
-        base: 0,
-        words: 1,
-        room: 65536,
-        calls: &[READS, WAITS, READS],
-    },
-    Said {
-        name: "until first, one after another, and last",
-        text: b"memory 0 1\nuntil 0x4002200c 0x1 0x0 1000\nuntil fffffffc FFFFFFFF ffffffff 1000000\n\
-            until 0 0 0 1",
-        base: 0,
-        words: 1,
-        room: 65536,
-        calls: &[WAITS, WAITS_LONG, WAITS_ONCE],
-    },
-    Said {
-        name: "next after until begins one call, and next before it none",
-        text: b"memory 0 1\nr 0\nnext\nuntil 4002200c 1 0 1000\nnext\nr 0\n",
-        base: 0,
-        words: 1,
-        room: 65536,
-        calls: &[READS, WAITS, READS],
-    },
-    Said {
-        name: "next at the end, after until",
-        text: b"memory 0 1\nuntil 4002200c 1 0 1000\nnext\n",
-        base: 0,
-        words: 1,
-        room: 65536,
-        calls: &[WAITS, NOTHING],
-    },
-    Said {
-        name: "until between a block, a block, and a verify",
-        text: b"memory 0 1\nblock 20000000 1\nuntil 0 0 0 1\nblock 20000000 1\nuntil 0 0 0 1\nverify 0 5\n",
-        base: 0,
-        words: 1,
-        room: 65536,
-        calls: &[
-            Call {
-                accesses: &[Access::Read(0x2000_0000)],
-                block: Some(0x2000_0000),
-                ..READS
-            },
-            WAITS_ONCE,
-            Call {
-                accesses: &[Access::Read(0x2000_0000)],
-                block: Some(0x2000_0000),
-                ..READS
-            },
-            WAITS_ONCE,
-            Call {
-                expected: &[Expected {
-                    line: 6,
-                    place: 0,
-                    addr: 0,
-                    word: 5,
-                }],
-                ..READS
-            },
-        ],
-    },
-];
-
-// A script says what its row says, and no more.
-fn is_said<R: Abort>(rt: &R, row: &Said, cut: usize, script: &Script<Global>) {
-    let place = (row.name, cut);
-    let found = (script.base, script.words, script.room);
-    expect_eq_at(rt, &place, &found, &(row.base, row.words, row.room));
-    expect_eq_at(rt, &place, &script.batches.len(), &row.calls.len());
-    for (batch, call) in script.batches.as_slice().iter().zip(row.calls.iter()) {
-        expect_eq_at(rt, &place, &batch.accesses.as_slice(), &call.accesses);
-        expect_eq_at(rt, &place, &batch.block, &call.block);
-        expect_eq_at(rt, &place, &batch.until, &call.until);
-        expect_eq_at(rt, &place, &batch.expected.as_slice(), &call.expected);
+impl Display for Shown<'_> {
+    fn fmt<W: fmt::Write>(&self, f: &mut Formatter<W>) -> fmt::Result {
+        let script = self.script;
+        write!(f, "{:x} {} {}", script.base, script.words, script.room)?;
+        for batch in script.batches.as_slice() {
+            f.write_str(";")?;
+            show_call(f, batch)?;
+        }
+        Ok(())
     }
 }
 
-#[test]
-fn a_script_is_read_however_it_is_cut(rt: HostRuntime) {
-    for row in SCRIPTS {
-        for cut in 0..row.text.len().saturating_add(1) {
-            match script_in(rt.alloc(), row.text, cut) {
-                Ok(script) => is_said(&rt, row, cut, &script),
-                Err(fault) => panic!(rt; "{}, cut at {cut}: {fault:?}", row.name),
-            }
+fn show_call<W: fmt::Write>(f: &mut Formatter<W>, batch: &Batch<Global>) -> fmt::Result {
+    if let Some(addr) = batch.block {
+        write!(f, " block {addr:x}")?;
+    }
+    if let Some(until) = batch.until {
+        let most = until.most;
+        write!(
+            f,
+            " until {:x} {:x} {:x} {most}",
+            until.addr, until.mask, until.value
+        )?;
+    }
+    for access in batch.accesses.as_slice() {
+        match *access {
+            Access::Read(addr) => write!(f, " r {addr:x}")?,
+            Access::Write(addr, word) => write!(f, " w {addr:x} {word:x}")?,
         }
     }
+    for read in batch.expected.as_slice() {
+        let (line, place) = (read.line, read.place);
+        write!(f, " expects {line} {place} {:x} {:x}", read.addr, read.word)?;
+    }
+    Ok(())
+}
+
+const SCRIPTS: &[(&str, &[u8], &str)] = &[
+    (
+        "a write and reads",
+        b"memory 20000000 16\nw 20000000 deadbeef\nrn 20000000 2\nr 30000000\n",
+        "20000000 16 65536; w 20000000 deadbeef r 20000000 r 20000004 r 30000000",
+    ),
+    (
+        "blanks, comments and line ends are passed over",
+        b"# a script \xff\x00\r\n\r\n \t \n\tmemory \t20000000  16# of sixteen words\r\nroom 5 #\xff\r\r\n\
+            w\t2000000C\tDeAdBeEf\t\n#\nr 0# and no more\r",
+        "20000000 16 5; w 2000000c deadbeef r 0",
+    ),
+    (
+        "numbers of every length",
+        b"memory 0 1\nw 4 1\nw 10 aB\nw 100 0aBc\nw 1000 1234567\nw 0000000c FFFFFFFF\n\
+            rn 00000010 0000000002\n",
+        "0 1 65536; w 4 1 w 10 ab w 100 abc w 1000 1234567 w c ffffffff r 10 r 14",
+    ),
+    (
+        "the greatest numbers in range",
+        b"memory fffc0000 65536\nroom 65536\nr fffffffc",
+        "fffc0000 65536 65536; r fffffffc",
+    ),
+    (
+        "no room, and the last two addresses",
+        b"memory 0 1\nroom 0\nrn fffffff8 2",
+        "0 1 0; r fffffff8 r fffffffc",
+    ),
+    (
+        "a block is the only access line",
+        b"memory 20000000 2\nroom 9\n# all of it\nblock 20000000 3\n\n",
+        "20000000 2 9; block 20000000 r 20000000 r 20000004 r 20000008",
+    ),
+    (
+        "the reads of a block, apart",
+        b"memory 20000000 2\nrn 20000000 3\n",
+        "20000000 2 65536; r 20000000 r 20000004 r 20000008",
+    ),
+    (
+        "next begins a further call",
+        b"memory 20000000 4\nroom 9\nw 20000000 5\nnext\nblock 20000000 2 # read back\n next\t#\nnext\n\
+            rn 20000004 1\n",
+        "20000000 4 9; w 20000000 5; block 20000000 r 20000000 r 20000004;; r 20000004",
+    ),
+    (
+        "verify is a read with its word",
+        b"memory 20000000 4\nw 20000000 5\nverify 20000000 5\n\nr 20000004\nverify 2000000C DeadBeef\n\
+            next\nverify 20000008 0\n",
+        "20000000 4 65536; w 20000000 5 r 20000000 r 20000004 r 2000000c expects 3 1 20000000 5 expects 6 3 \
+            2000000c deadbeef; r 20000008 expects 8 0 20000008 0",
+    ),
+    (
+        "hexadecimal numbers may have a prefix",
+        b"memory 0x20000000 1\nw 0X2000000C 0xdeadBEEF\nw 0x0 0X00000001\nrn 0x10 2\nr 0x0\n",
+        "20000000 1 65536; w 2000000c deadbeef w 0 1 r 10 r 14 r 0",
+    ),
+    (
+        "until is a call of its own",
+        b"memory 0 1\nr 0\nuntil 4002200c 1 0 1000\nr 0\n",
+        "0 1 65536; r 0; until 4002200c 1 0 1000 r 4002200c; r 0",
+    ),
+    (
+        "until first, one after another, and last",
+        b"memory 0 1\nuntil 0x4002200c 0x1 0x0 1000\nuntil fffffffc FFFFFFFF ffffffff 1000000\n\
+            until 0 0 0 1",
+        "0 1 65536; until 4002200c 1 0 1000 r 4002200c; until fffffffc ffffffff ffffffff 1000000 r fffffffc; \
+            until 0 0 0 1 r 0",
+    ),
+    (
+        "next after until begins one call, and next before it none",
+        b"memory 0 1\nr 0\nnext\nuntil 4002200c 1 0 1000\nnext\nr 0\n",
+        "0 1 65536; r 0; until 4002200c 1 0 1000 r 4002200c; r 0",
+    ),
+    (
+        "next at the end, after until",
+        b"memory 0 1\nuntil 4002200c 1 0 1000\nnext\n",
+        "0 1 65536; until 4002200c 1 0 1000 r 4002200c;",
+    ),
+    (
+        "until between a block, a block, and a verify",
+        b"memory 0 1\nblock 20000000 1\nuntil 0 0 0 1\nblock 20000000 1\nuntil 0 0 0 1\nverify 0 5\n",
+        "0 1 65536; block 20000000 r 20000000; until 0 0 0 1 r 0; block 20000000 r 20000000; until 0 0 0 1 r 0; \
+            r 0 expects 6 0 0 5",
+    ),
+];
+
+#[test]
+fn a_script_is_read_however_it_is_cut(rt: HostRuntime) -> Result<(), Fail> {
+    for (name, text, wanted) in SCRIPTS {
+        for cut in 0..text.len().saturating_add(1) {
+            let script = script_in(rt.alloc(), text, cut)?;
+            let found = format!(in rt.alloc(); "{}", Shown { script: &script })?;
+            expect_eq_at(&rt, &(name, cut), &found.as_str(), wanted);
+        }
+    }
+    Ok(())
 }
 
 // Scripts of long calls: of each call how many accesses it has, and the last of them.

@@ -1,12 +1,14 @@
 //! A line that is a text: what is driven in each clock, and the levels of those in which nothing is.
 
+use crate::row::Wrong;
+use std::alloc::Global;
 use swd_dap_probe::ProbeLine;
 
 /// A line on which these clocks are expected, a character each: `0` and `1` are driven, `l` and `h` are released and
-/// sampled low and high, `R` and `r` set nRESET high and low. Others stand for nothing.
+/// sampled low and high, `R` and `r` set nRESET high and low.
 #[derive(Drop)]
-pub(super) struct TextLine {
-    clocks: &'static [u8],
+pub struct TextLine {
+    clocks: Vec<u8>,
     // How many of them went by.
     gone: usize,
     // Whether there was another clock than expected.
@@ -19,26 +21,26 @@ fn counts(character: u8) -> bool {
 }
 
 impl TextLine {
-    /// Returns a line on which nothing went by.
-    pub(super) fn new(clocks: &'static [u8]) -> TextLine {
-        TextLine {
+    /// Returns a line on which nothing went by. Its clocks are those of a row's lines that begin with `~`.
+    pub fn of<'t>(alloc: Global, lines: &'t str) -> Result<TextLine, Wrong<'t>> {
+        let mut clocks = Vec::new(alloc);
+        for line in lines.lines().filter(|line| line.starts_with("~")) {
+            for character in line.bytes().filter(|it| counts(*it)) {
+                clocks.push(character)?;
+            }
+        }
+        Ok(TextLine {
             clocks,
             gone: 0,
             strayed: false,
-        }
+        })
     }
 
     // Returns the next character, if there is one.
     fn next(&mut self) -> Option<u8> {
-        let left = self.clocks.get(self.gone..)?;
-        for (place, character) in left.iter().enumerate() {
-            if counts(*character) {
-                self.gone = self.gone.saturating_add(place + 1);
-                return Some(*character);
-            }
-        }
-        self.gone = self.clocks.len();
-        None
+        let next = self.clocks.get(self.gone).copied();
+        self.gone = self.gone.saturating_add(1);
+        next
     }
 
     // Takes the next character, which is to be one of two.
@@ -51,7 +53,7 @@ impl TextLine {
     }
 
     /// Returns whether all that was expected went by, and nothing else.
-    pub(super) fn is_done(&mut self) -> bool {
+    pub fn is_done(&mut self) -> bool {
         !self.strayed && self.next().is_none()
     }
 }
