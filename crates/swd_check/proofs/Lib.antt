@@ -1,4 +1,4 @@
 pub mod WatchLemmas
 pub mod JunkLemmas
 pub mod SaidLemmas
-pub mod TextCheckLemmas
+

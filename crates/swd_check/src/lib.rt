@@ -8,21 +8,17 @@
 mod beside;
 mod check;
 mod checked;
-mod checking;
 mod exact;
 mod items;
 mod overrun;
 mod plain;
 mod rules;
 mod text;
-mod text_check;
 mod why;
 
 pub use check::{Check, CheckOptions};
 pub use checked::{Checked, LONGEST_CHECKED};
-pub use checking::Checking;
 pub use items::CheckedItems;
 pub use plain::{NotPlain, PlainMemory, Read};
 pub use text::{check_text, check_to};
-pub use text_check::TextCheck;
 pub use why::{Broken, Why};

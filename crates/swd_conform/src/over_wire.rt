@@ -40,11 +40,12 @@ impl<A: Allocator + Copy> LineJob for ConformRun<A> {
 
     fn perform<T: Transport, S: Story>(
         &mut self,
-        wire: &mut TransportWire<T, S, Tied>,
-    ) -> Conformed {
+        wire: TransportWire<T, S, Tied>,
+    ) -> (Conformed, TransportWire<T, S, Tied>) {
+        let mut wire = wire;
         'steps: loop {
-            if !turn_unless_gone(self, wire) {
-                return self.conformed();
+            if !turn_unless_gone(self, &mut wire) {
+                return (self.conformed(), wire);
             }
         }
     }

@@ -1,6 +1,5 @@
 -- The status of a command over a remote target with the verdict on its session.
-use Rattle.std.specs.Prelude.{◌==◌, ℕ, Option, None, Some, Result, Ok, Err, if◌then◌else◌}
-use Rattle.swd_text.specs.declared.fault.TextFault.{TextFault}
+use Rattle.std.specs.Prelude.{◌==◌, ℕ, Option, None, Some, if◌then◌else◌}
 use Rattle.swd_check.specs.declared.checked.Checked.{Checked}
 use Rattle.swd_check.specs.declared.checked.Checked.TheVariants.{Breaks}
 
@@ -13,9 +12,3 @@ command_status_by checked status = status
 abbrev pub command_status_of_session : Option Checked → ℕ → ℕ
 command_status_of_session None status = status
 command_status_of_session (Some checked) status = command_status_by checked status
-
--- the same if the trace of the session was checked
-abbrev pub command_status_checked : Option (Result Checked TextFault) → ℕ → ℕ
-command_status_checked None status = status
-command_status_checked (Some (Ok checked)) status = command_status_by checked status
-command_status_checked (Some (Err fault)) status = status

@@ -48,5 +48,5 @@ pub use streams::{
     ERRORS, INPUT, Stream, conversion_status, name_or_nothing, status_after, streams_status,
     tell_failure, tell_failure_or,
 };
-pub use verdict::{session_status, verdict_status};
+pub use verdict::session_status;
 pub use watched::{KeepsError, Watched};

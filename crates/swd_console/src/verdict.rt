@@ -1,11 +1,10 @@
 //! Prints the verdict on a session, and returns the status with it.
 ghost use Rattle.std.specs.Prelude.{◌≡◌};
-ghost use Rattle.swd_console.specs.Verdicts.{command_status_by, command_status_checked, command_status_of_session};
+ghost use Rattle.swd_console.specs.Verdicts.{command_status_by, command_status_of_session};
 
 use crate::report::{DONE, STOPPED};
 use std::io::Write;
 use swd_check::Checked;
-use swd_text::TextFault;
 
 /// Prints the line of a verdict on standard error, if a session was checked. Returns the status: 1 in place of 0 if a
 /// rule is broken, and otherwise `status`, that of the command without a check.
@@ -14,24 +13,6 @@ pub fn session_status<E: Write>(errors: &mut E, verdict: &Option<Checked>, statu
 {
     match verdict {
         Some(checked) => checked_status(errors, checked, status),
-        None => status,
-    }
-}
-
-/// Does so for a session whose trace was checked. Prints why the trace is invalid, if it is.
-pub fn verdict_status<E: Write>(
-    errors: &mut E,
-    verdict: &Option<Result<Checked, TextFault>>,
-    status: u8,
-) -> u8
-    ensures { result ≡ command_status_checked verdict.now status }
-{
-    match verdict {
-        Some(Ok(checked)) => checked_status(errors, checked, status),
-        Some(Err(fault)) => {
-            let _ = writeln!(errors, "swd: {fault}");
-            status
-        }
         None => status,
     }
 }

@@ -54,3 +54,8 @@ RunsRemote story limits Over unused (Err Read) script old new before after =
 abbrev pub remote_end_script_fault : Unread ScriptFault → RemoteFault
 remote_end_script_fault Reader = Read
 remote_end_script_fault (Consumer fault) = Script fault
+
+-- the result of a script that was read and run
+abbrev pub remote_end_answer : Result Finished EngineFault → Result Finished RemoteFault
+remote_end_answer (Ok finished) = Ok finished
+remote_end_answer (Err fault) = Err (Engine fault)

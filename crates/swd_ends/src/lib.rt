@@ -8,10 +8,12 @@ pub mod laws;
 mod live_files;
 mod portions;
 mod remote;
+mod run_job;
 mod serving;
 mod target_log;
 
 pub use clocked_probe::ClockedProbe;
 pub use live_files::{LiveFiles, serve_logged};
-pub use remote::{RemoteFault, run_remote, run_remote_script};
+pub use remote::{RemoteFault, RemoteRan, run_remote};
+pub use run_job::RunJob;
 pub use serving::{TargetFault, read_target, target_pins};

@@ -77,8 +77,13 @@ impl<'a, S: CallReports, A: Allocator + Copy> LineJob for PiecesJob<'a, S, A> {
 
     fn perform<T: Transport, P: Story>(
         &mut self,
-        wire: &mut TransportWire<T, P, Tied>,
-    ) -> Result<Option<ByteDifference>, ImageFault> {
-        self.make_calls(wire)
+        wire: TransportWire<T, P, Tied>,
+    ) -> (
+        Result<Option<ByteDifference>, ImageFault>,
+        TransportWire<T, P, Tied>,
+    ) {
+        let mut wire = wire;
+        let answer = self.make_calls(&mut wire);
+        (answer, wire)
     }
 }

@@ -32,9 +32,12 @@ impl<'a, S: CallReports, A: Allocator + Copy> LineJob for LoadJob<'a, S, A> {
 
     fn perform<T: Transport, P: Story>(
         &mut self,
-        wire: &mut TransportWire<T, P, Tied>,
-    ) -> Result<(), ImageFault> {
-        load_pieces(self.alloc, wire, self.image, self.limits, &mut self.report)
+        wire: TransportWire<T, P, Tied>,
+    ) -> (Result<(), ImageFault>, TransportWire<T, P, Tied>) {
+        let mut wire = wire;
+        let (image, limits) = (self.image, self.limits);
+        let answer = load_pieces(self.alloc, &mut wire, image, limits, &mut self.report);
+        (answer, wire)
     }
 }
 
@@ -59,9 +62,15 @@ impl<'a, S: CallReports, A: Allocator + Copy> LineJob for VerifyJob<'a, S, A> {
 
     fn perform<T: Transport, P: Story>(
         &mut self,
-        wire: &mut TransportWire<T, P, Tied>,
-    ) -> Result<Option<ByteDifference>, ImageFault> {
-        verify_pieces(self.alloc, wire, self.image, self.limits, &mut self.report)
+        wire: TransportWire<T, P, Tied>,
+    ) -> (
+        Result<Option<ByteDifference>, ImageFault>,
+        TransportWire<T, P, Tied>,
+    ) {
+        let mut wire = wire;
+        let (image, limits) = (self.image, self.limits);
+        let answer = verify_pieces(self.alloc, &mut wire, image, limits, &mut self.report);
+        (answer, wire)
     }
 }
 
@@ -88,15 +97,11 @@ impl<S: CallReports, A: Allocator + Copy> LineJob for DumpJob<S, A> {
 
     fn perform<T: Transport, P: Story>(
         &mut self,
-        wire: &mut TransportWire<T, P, Tied>,
-    ) -> Result<Vec<u8, A>, ImageFault> {
-        dump(
-            self.alloc,
-            wire,
-            self.addr,
-            self.count,
-            self.limits,
-            &mut self.report,
-        )
+        wire: TransportWire<T, P, Tied>,
+    ) -> (Result<Vec<u8, A>, ImageFault>, TransportWire<T, P, Tied>) {
+        let mut wire = wire;
+        let (addr, count, limits) = (self.addr, self.count, self.limits);
+        let answer = dump(self.alloc, &mut wire, addr, count, limits, &mut self.report);
+        (answer, wire)
     }
 }

@@ -21,13 +21,13 @@ pub trait LineJob {
     /// first, for each story.
     ghost came: { (ℕ → Port) → Self → Self → Self.Answer → List Call → Type 0 };
 
-    /// Does the job over a wire without calls.
+    /// Does the job over a wire without calls, and returns the wire.
     fn perform<T: Transport, S: Story>(
         &mut self,
-        wire: &mut TransportWire<T, S, Tied>,
-    ) -> Self::Answer
-        requires { wire_calls wire.old ≡ [] }
-        ensures { came S.at self.old self.new result (wire_calls wire.new) };
+        wire: TransportWire<T, S, Tied>,
+    ) -> (Self::Answer, TransportWire<T, S, Tied>)
+        requires { wire_calls wire ≡ [] }
+        ensures { came S.at self.old self.new result.0 (wire_calls result.1) };
 }
 
 /// Does a job at the target behind a remote_bitbang server, and then sends `Q`. Returns the connection too, with the
@@ -81,9 +81,9 @@ fn over_begun<P: Story, B: InitialStreams, J: LineJob, R: Read, W: Write, K: Cal
         transport: RemoteTransport::<R, W, B>::new(line),
         sink,
     };
-    let mut wire: TransportWire<WatchedTransport<RemoteTransport<R, W, B>, K>, P, Tied> =
+    let wire: TransportWire<WatchedTransport<RemoteTransport<R, W, B>, K>, P, Tied> =
         TransportWire::begun(transport);
-    let answer = job.perform(&mut wire);
+    let (answer, wire) = job.perform(wire);
     let WatchedTransport { transport, sink } = wire.into_transport();
     (answer, transport.hang_up(), sink)
 }

@@ -1,35 +1,35 @@
--- A run by limits that were computed is one by the limits of its arguments.
-use Rattle.std.proofs.Common.{◌≡◌, ℕ, List, Option, Result, subst}
+-- A run by limits and over a way that were computed is one by those of its arguments.
+use Rattle.std.proofs.Common.{◌≡◌, ℕ, Bool, List, [], Option, Result, subst}
 use Rattle.swd_port.specs.Port.{Port}
 use Rattle.swd_port.specs.declared.call.Call.{Call}
 use Rattle.swd_script.specs.Scripts.{ScriptListed}
 use Rattle.swd_run.specs.declared.engine.Finished.{Finished}
 use Rattle.swd_run.specs.declared.fault.EngineFault.{EngineFault}
 use Rattle.swd_run.specs.declared.limits.Limits.{Limits}
+use Rattle.swd_run.specs.Engine.{BatchAnswersAt}
 use Rattle.swd_run.specs.Records.{RunFiles}
+use Rattle.swd_run.specs.Wires.{run_story_wire}
 use Rattle.swd_remote.specs.declared.kept.RemoteStreams.{RemoteStreams}
 use Rattle.swd_remote.specs.declared.line.Way.{Way}
+use Rattle.swd_check.specs.declared.checked.Checked.{Checked}
+use Rattle.swd_conform.specs.Sessions.{GoesOverChecked}
 use Rattle.swd_ends.specs.RemoteRuns.{RanRemoteEndScript}
-use Rattle.swd_console.specs.Connections.{CommandWentOver}
 
--- what is said of a run over a line by some limits holds of it by equal ones
-pub ran_by_limits : {story : ℕ → Port} {Over : List Call → Type 0} {batches : List ScriptListed}
-    {answer : Result Finished EngineFault} {old new : Option (List ℕ)} {before after : RunFiles} (x y : Limits)
-    → x ≡ y → RanRemoteEndScript story x Over batches answer old new before after
-    → RanRemoteEndScript story y Over batches answer old new before after
-ran_by_limits {story} {Over} {batches} {answer} {old} {new} {before} {after} x y is h =
-    subst (λ limits. RanRemoteEndScript story limits Over batches answer old new before after) is h
-
--- and so does what went over that line
-pub ran_over_way : {R W : Type 0} {story : ℕ → Port} {limits : Limits} {batches : List ScriptListed}
-    {answer : Result Finished EngineFault} {old new : Option (List ℕ)} {before after : RunFiles}
+-- what a job states of its calls, and what went over its line
+pub ran_as_asked : {R W : Type 0} {batches : List ScriptListed} {answer : Result Finished EngineFault}
+    {old new : Option (List ℕ)} {before after : RunFiles} (story : ℕ → Port) (check : Bool)
     (remaining : R → Option (List ℕ)) (contents : W → Option (List ℕ)) (sent left : Option (List ℕ))
-    (line : RemoteStreams R W) (x y : Way) → x ≡ y
-    → RanRemoteEndScript story limits (CommandWentOver x remaining contents sent left line) batches answer old new
+    (line : RemoteStreams R W) (calls : List Call) (verdict : Option Checked) (x y : Limits) → x ≡ y
+    → (v w : Way) → v ≡ w
+    → BatchAnswersAt (run_story_wire story) x batches [] calls answer old new before after
+    → ∥ GoesOverChecked check v remaining contents sent left line calls verdict ∥₁
+    → RanRemoteEndScript story y
+    (λ calls. ∥ GoesOverChecked check w remaining contents sent left line calls verdict ∥₁) batches answer old new
     before after
-    → RanRemoteEndScript story limits (CommandWentOver y remaining contents sent left line) batches answer old new
-    before after
-ran_over_way {story} {limits} {batches} {answer} {old} {new} {before} {after} remaining contents sent left line x y is
-    h =
-    subst (λ way. RanRemoteEndScript story limits (CommandWentOver way remaining contents sent left line) batches
-    answer old new before after) is h
+ran_as_asked {batches = batches} {answer} {old} {new} {before} {after} story check remaining contents sent left line
+    calls verdict x y same v w way answers over = record {
+      calls = calls;
+      answers = subst (λ limits. BatchAnswersAt (run_story_wire story) limits batches [] calls answer old new before
+          after) same answers;
+      over = subst (λ way. ∥ GoesOverChecked check way remaining contents sent left line calls verdict ∥₁) way over;
+    }

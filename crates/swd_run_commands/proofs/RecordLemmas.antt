@@ -1,15 +1,13 @@
 -- The files that a run writes beside its report, by their writers.
-use Rattle.std.proofs.Common.{◌≡◌, ℕ, Bool, false, List, Option, ◌∙◌, ap}
-use Rattle.std.specs.Prelude.{◌||◌, is_some}
+use Rattle.std.proofs.Common.{◌≡◌, ℕ, Bool, List, Option, ◌∙◌, ap}
+use Rattle.std.specs.Prelude.{is_some}
 use Rattle.swd_capture_text.specs.declared.accesses_printer.AccessesPrinter.{AccessesPrinter}
 use Rattle.swd_capture_text.specs.Captures.{accesses_printed, accesses_text}
 use Rattle.swd_run.specs.declared.records.Records.{Records}
 use Rattle.swd_run.specs.Records.{run_file_held, run_files_from, run_files_of}
 use Rattle.swd_run.proofs.EngineLemmas.{run_file_is_some}
 use Rattle.swd_command_line.specs.declared.command.RunLine.{RunLine}
-use Rattle.swd_run_commands.specs.Remotes.{AreRemoteCommandFiles}
 use Rattle.swd_run_commands.specs.Runs.{AreRunCommandFiles}
-use Rattle.swd_run_commands.specs.Verdicts.{AreCheckedRecords}
 
 -- there are writers for the files that are named
 pub run_command_files_named : {T G : Type 0} (contents : T → Option (List ℕ)) (run : RunLine) (made : Bool)
@@ -20,18 +18,6 @@ run_command_files_named contents run made records is = record {
   trace = run_file_is_some contents records.trace ∙ is.0;
   accesses = run_file_is_some contents records.accesses ∙ is.1;
   shown = ap accesses_text is.2;
-}
-
--- the same of a remote run, whose trace has a writer too if it is checked
-pub remote_command_files_named : {V W G H : Type 0} (contents : W → Option (List ℕ)) (run : RunLine)
-    (files : Records V AccessesPrinter G) (records : Records W AccessesPrinter H)
-    → (is_some files.trace ≡ is_some run.trace) × (is_some files.accesses ≡ is_some run.accesses)
-    × (files.printer.made ≡ false) → AreCheckedRecords run.check files records
-    → AreRemoteCommandFiles run (run_files_of contents accesses_printed records)
-remote_command_files_named contents run files records is checked = record {
-  trace = run_file_is_some contents records.trace ∙ checked.trace ∙ ap (λ b. b || run.check) is.0;
-  accesses = run_file_is_some contents records.accesses ∙ checked.accesses ∙ is.1;
-  shown = ap (λ printer. accesses_text printer.made) checked.printer ∙ ap accesses_text is.2;
 }
 
 -- they are the same, whatever is told how far the run is

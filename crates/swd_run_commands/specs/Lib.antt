@@ -1,5 +1,4 @@
 pub mod Cores
-pub mod Verdicts
 pub mod Infos
 pub mod MemoryTargets
 pub mod Remotes

@@ -5,7 +5,6 @@ ghost use Rattle.swd_script.specs.Scripts.{script_of};
 ghost use Rattle.swd_console.specs.Streams.{CommandEndsOver};
 ghost use Rattle.swd_run_commands.specs.Cores.{CoreEndsAs, PerformsCore, PrintsCore, PrintsText, core_line_text};
 
-use crate::checked_records::checked_records;
 use crate::records::{cut_off_records, open_records};
 use crate::remote_command::report_to_file;
 use std::alloc::{AllocError, Allocator};
@@ -123,7 +122,6 @@ fn run_core<
     if let Err(status) = cut_off_records(run, &records, console) {
         return (status, RemoteStreams::unused(input, output));
     }
-    let records = checked_records(console.alloc, run.check, run.probe.is_some(), records);
     let line = Line {
         reader: input,
         writer: output,

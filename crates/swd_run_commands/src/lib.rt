@@ -1,7 +1,6 @@
 //! Carries out `swd run`, at a simulated target or at one behind the standard streams, `swd info` and `swd target`.
 #![tactic(auto)]
 
-mod checked_records;
 mod core_command;
 mod info_command;
 mod memory_target;

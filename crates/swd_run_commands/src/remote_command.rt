@@ -4,14 +4,11 @@ ghost use Rattle.swd_capture_text.specs.Captures.{accesses_printed};
 ghost use Rattle.swd_script.specs.Laws.{IsScriptRunnable};
 ghost use Rattle.swd_script.specs.Readers.{read_script_meaning};
 ghost use Rattle.swd_run.specs.Records.{run_files_of};
-ghost use Rattle.swd_check.specs.Checkings.{checking_contents};
 ghost use Rattle.swd_console.specs.Connections.{command_way};
-ghost use Rattle.swd_console.specs.Streams.{stream_watched};
-ghost use Rattle.swd_run_commands.specs.Remotes.{AreRemoteCommandFiles, PerformsRemoteCommand, RemoteCommandEndsAs};
-ghost use Rattle.swd_run_commands.specs.Remotes.{RunsRemoteScript, remote_command_status};
-ghost use Rattle.swd_run_commands.specs.Verdicts.{IsRunVerdict};
+ghost use Rattle.swd_console.specs.Verdicts.{command_status_of_session};
+ghost use Rattle.swd_run_commands.specs.Remotes.{PerformsRemoteCommand, RunsRemoteScript, remote_command_status};
+ghost use Rattle.swd_run_commands.specs.Runs.{AreRunCommandFiles};
 
-use crate::checked_records::{RecordFile, checked_records, verdict_of};
 use crate::records::{cut_off_records, give_up_records, open_records, paced};
 use crate::run_command::limits_of;
 use crate::unread::unread_script_status;
@@ -23,15 +20,15 @@ use swd_command_line::RunLine;
 use swd_console::{
     Clock, Console, Destination, ERRORS, FAULT, Files, InUse, KeepsError, Stream, TrackedReader,
     Watched, WriteRole, advice_on, cannot_open, cut_off, gone_status, line_streams,
-    name_or_nothing, run_status, tell, tell_failure, verdict_status, way_of,
+    name_or_nothing, run_status, session_status, tell, tell_failure, way_of,
 };
-use swd_ends::run_remote_script;
+use swd_conform::over_checked_line;
+use swd_ends::RunJob;
 use swd_host::End;
 use swd_port::Story;
 use swd_remote::{Line, RemoteStreams};
 use swd_run::{EngineFault, Finished, Records};
 use swd_script::{Script, read_script};
-use swd_text::TextFault;
 
 // Opens the file of the report, which isn't truncated yet. `-` is standard error. At an error it prints a line and
 // returns the status 2.
@@ -142,7 +139,6 @@ pub(crate) fn perform_remote<
     if let Err(status) = cut_off_records(run, &records, console) {
         return (status, RemoteStreams::unused(input, output));
     }
-    let records = checked_records(console.alloc, run.check, run.probe.is_some(), records);
     let line = Line {
         reader: input,
         writer: output,
@@ -158,11 +154,13 @@ pub(crate) fn perform_remote<
     }
 }
 
-// A run at a remote target: its result, its connection, its report, and its other files.
+// A run at a remote target: its result, its connection, the verdict on its session if that was checked, its report, and
+// its other files.
 #[derive(Drop)]
 struct RemoteRan<'a, R, W, T> {
     answer: Result<Finished, EngineFault>,
     line: RemoteStreams<R, W>,
+    verdict: Option<Checked>,
     report: Stream<'a>,
     records: Records<T, AccessesPrinter>,
 }
@@ -173,7 +171,7 @@ pub(crate) fn report_to_file<
     I: Read + KeepsError + Drop,
     O: Write + KeepsError + Drop,
     M: Write + Drop,
-    T: Write + Drop,
+    T: Write + KeepsError + Drop,
     A: Allocator + Copy,
     F,
     C: Clock,
@@ -183,31 +181,35 @@ pub(crate) fn report_to_file<
     script: &Script<A>,
     line: Line<I, O>,
     file: M,
-    records: Records<RecordFile<T, A>, AccessesPrinter>,
+    records: Records<T, AccessesPrinter>,
     console: &mut Console<'_, A, F, C, E>,
 ) -> (u8, RemoteStreams<I, O>)
     requires script { IsScriptRunnable (read_script_meaning script.now) }
     requires way { line.way ≡ command_way run.now.probe }
-    requires files { AreRemoteCommandFiles run.now (run_files_of (stream_watched (checking_contents T.contents))
-        accesses_printed records) }
+    requires files { AreRunCommandFiles run.now false (run_files_of T.contents accesses_printed records) }
     ensures { RunsRemoteScript P.at run.now result.0 I.remaining O.contents (O.contents line.writer)
         (I.remaining line.reader) result.1 (read_script_meaning script.now).batches }
 {
-    let mut report = Watched::new(file);
     let alloc = console.alloc;
-    let limits = limits_of(run);
-    let mut records = paced(run, records, &mut *console.errors, console.clock);
-    let (answer, line) = run_remote_script::<P, _, _, _, _, _, _, _>(
+    let mut job = RunJob {
         alloc,
         script,
-        line,
-        limits,
-        &mut report,
-        &mut records,
+        limits: limits_of(run),
+        report: Watched::new(file),
+        records: paced(run, records, &mut *console.errors, console.clock),
+    };
+    let (answer, line, verdict) = over_checked_line::<P, _, _, _, _>(
+        alloc, run.check, &mut job, line,
     );
+    let RunJob {
+        report,
+        records,
+        ..
+    } = job;
     let ran = RemoteRan {
         answer,
         line,
+        verdict,
         report: Stream::written(name_or_nothing(&run.report), &report),
         records: records.with_progress(()),
     };
@@ -219,7 +221,7 @@ fn report_to_errors<
     P: Story,
     I: Read + KeepsError + Drop,
     O: Write + KeepsError + Drop,
-    T: Write + Drop,
+    T: Write + KeepsError + Drop,
     A: Allocator + Copy,
     F,
     C,
@@ -228,87 +230,71 @@ fn report_to_errors<
     run: &RunLine,
     script: &Script<A>,
     line: Line<I, O>,
-    records: Records<RecordFile<T, A>, AccessesPrinter>,
+    records: Records<T, AccessesPrinter>,
     console: &mut Console<'_, A, F, C, E>,
 ) -> (u8, RemoteStreams<I, O>)
     requires script { IsScriptRunnable (read_script_meaning script.now) }
     requires way { line.way ≡ command_way run.now.probe }
-    requires files { AreRemoteCommandFiles run.now (run_files_of (stream_watched (checking_contents T.contents))
-        accesses_printed records) }
+    requires files { AreRunCommandFiles run.now false (run_files_of T.contents accesses_printed records) }
     ensures { RunsRemoteScript P.at run.now result.0 I.remaining O.contents (O.contents line.writer)
         (I.remaining line.reader) result.1 (read_script_meaning script.now).batches }
 {
-    let mut records = records;
-    let limits = limits_of(run);
-    let mut report = Watched::new(&mut *console.errors);
-    let (answer, line) = run_remote_script::<P, _, _, _, _, _, _, _>(
-        console.alloc,
+    let alloc = console.alloc;
+    let mut job = RunJob {
+        alloc,
         script,
-        line,
-        limits,
-        &mut report,
-        &mut records,
+        limits: limits_of(run),
+        report: Watched::new(&mut *console.errors),
+        records,
+    };
+    let (answer, line, verdict) = over_checked_line::<P, _, _, _, _>(
+        alloc, run.check, &mut job, line,
     );
+    let RunJob {
+        report,
+        records,
+        ..
+    } = job;
     let written = Stream::written(ERRORS, &report);
     drop(report);
     let ran = RemoteRan {
         answer,
         line,
+        verdict,
         report: written,
         records,
     };
     ended(run, ran, console)
 }
 
-// What is said where the check lost its trace.
-const NO_VERDICT: &str = "the session has no verdict: its trace was not written";
-
 // Prints how a run ended, and the verdict on its session if that was checked. Returns the status, and the connection.
 fn ended<
     I: Read + KeepsError,
     O: Write + KeepsError,
-    T: Write + Drop,
-    A: Allocator + Copy,
+    T: Write + KeepsError + Drop,
+    A,
     F,
     C,
     E: Write,
 >(
     run: &RunLine,
-    ran: RemoteRan<'_, I, O, RecordFile<T, A>>,
+    ran: RemoteRan<'_, I, O, T>,
     console: &mut Console<'_, A, F, C, E>,
 ) -> (u8, RemoteStreams<I, O>)
     ensures line { result.1 ≡ ran.entry.line }
-    ensures status { RemoteCommandEndsAs run.now ran.entry.line.fault ran.entry.answer result.0 }
+    ensures status { result.0 ≡ command_status_of_session ran.entry.verdict
+        (remote_command_status run.now.strict ran.entry.line.fault ran.entry.answer) }
 {
     let RemoteRan {
         answer,
         line,
+        verdict,
         report,
         records,
     } = ran;
     let streams = remote_streams(run, report, &records);
     let status = reached_status(console.errors, run, answer, &line, streams.as_slice());
-    let verdict = run_verdict(run.check, records.trace);
-    if run.check && verdict.is_none() {
-        let _ = writeln!(console.errors, "swd: {NO_VERDICT}");
-    }
-    (verdict_status(console.errors, &verdict, status), line)
-}
-
-// Returns the verdict on the trace of a run, if it was checked. There is none where the trace's file failed, since the
-// check has no more of the session than the file was to get.
-fn run_verdict<T: Drop, A: Allocator + Copy>(
-    check: bool,
-    trace: Option<RecordFile<T, A>>,
-) -> Option<Result<Checked, TextFault>>
-    ensures { IsRunVerdict check result }
-{
-    let trace = trace?;
-    if check && trace.kept_error().is_none() {
-        verdict_of(trace)
-    } else {
-        None
-    }
+    (session_status(console.errors, &verdict, status), line)
 }
 
 // Returns the streams of a remote run beside its connection, in the order of their lines.

@@ -137,14 +137,15 @@ fn a_remote_run_stops_where_no_target_answers_so(rt: HostRuntime) {
         let mut sent = Vec::new(rt.alloc());
         let mut report = Vec::new(rt.alloc());
         let mut script = SCRIPT;
-        let (answer, line) = run_remote::<Untold, _, _, _, _, _, _, _, _>(
+        let ran = run_remote::<Untold, _, _, _, _, _, _, _, _>(
             rt.alloc(),
             &mut script,
             Line::characters(row.levels, &mut sent),
             limits(1),
             &mut report,
-            &mut Records::<Vec<u8>>::none(),
+            Records::<Vec<u8>>::none(),
         );
+        let (answer, line) = (ran.answer, ran.line);
         expect_eq_at(&rt, &row.name, &answer, &Ok(finished(row.ended)));
         expect_eq_at(&rt, &row.name, &line.fault, &None);
         expect_eq_at(&rt, &row.name, &report.as_slice(), &row.report);

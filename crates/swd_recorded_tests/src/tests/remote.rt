@@ -63,14 +63,15 @@ type Ran<R> = (Result<Finished, RemoteFault>, RemoteStreams<R, Vec<u8>>);
 fn run_at<R: Read, O: Write>(alloc: Global, script: &[u8], reader: R, report: &mut O) -> Ran<R> {
     let mut script = script;
     let writer = Vec::new(alloc);
-    run_remote::<Untold, _, _, _, _, _, _, _, _>(
+    let ran = run_remote::<Untold, _, _, _, _, _, _, _, _>(
         alloc,
         &mut script,
         Line::characters(reader, writer),
         LIMITS,
         report,
-        &mut Records::<Vec<u8>>::none(),
-    )
+        Records::<Vec<u8>>::none(),
+    );
+    (ran.answer, ran.line)
 }
 
 // The recorded host takes SWDIO for driven at first. This one says so: a server may begin with it released.
@@ -102,23 +103,24 @@ fn a_script_sends_what_was_recorded(rt: HostRuntime) {
 fn a_remote_run_is_traced(rt: HostRuntime) {
     let mut sent = Vec::new(rt.alloc());
     let mut report = Vec::new(rt.alloc());
-    let mut records = Records {
+    let records = Records {
         trace: Some(Vec::new(rt.alloc())),
         accesses: Some(Vec::new(rt.alloc())),
         printer: AccessesPrinter { made: false },
         progress: (),
     };
     let mut script = SCRIPT;
-    let (answer, line) = run_remote::<Untold, _, _, _, _, _, _, _, _>(
+    let ran = run_remote::<Untold, _, _, _, _, _, _, _, _>(
         rt.alloc(),
         &mut script,
         Line::characters(UNDISTURBED.levels, &mut sent),
         LIMITS,
         &mut report,
-        &mut records,
+        records,
     );
-    let trace = records.trace.expect(&rt, "its writer");
-    let accesses = records.accesses.expect(&rt, "its writer");
+    let (answer, line) = (ran.answer, ran.line);
+    let trace = ran.records.trace.expect(&rt, "its writer");
+    let accesses = ran.records.accesses.expect(&rt, "its writer");
     expect_eq(
         &rt,
         &accesses.as_slice(),
@@ -156,17 +158,18 @@ fn a_failed_write_ends_the_session(rt: HostRuntime) {
         let (report_room, trace_room) = (*report_room, *trace_room);
         let mut sent = Vec::new(rt.alloc());
         let mut report = ShortWriter::new(rt.alloc(), report_room, true);
-        let mut records = only_trace(ShortWriter::new(rt.alloc(), trace_room, false));
+        let records = only_trace(ShortWriter::new(rt.alloc(), trace_room, false));
         let mut script = SCRIPT;
-        let (answer, _) = run_remote::<Untold, _, _, _, _, _, _, _, _>(
+        let ran = run_remote::<Untold, _, _, _, _, _, _, _, _>(
             rt.alloc(),
             &mut script,
             Line::characters(UNDISTURBED.levels, &mut sent),
             LIMITS,
             &mut report,
-            &mut records,
+            records,
         );
-        let trace = records.trace.expect(&rt, "its writer");
+        let answer = ran.answer;
+        let trace = ran.records.trace.expect(&rt, "its writer");
         let whole = report_room == REPORT.len();
         let written = if whole { trace_room } else { report_room };
         expect_eq(

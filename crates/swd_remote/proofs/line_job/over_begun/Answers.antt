@@ -5,7 +5,7 @@ use Rattle.swd_remote.proofs.line_job.over_begun.Goals as goal
 
 pub returns : goal.returns
 returns g c =
-    let wire = c.perform-answer.new.wire in (
+    let wire = c.perform-answer.result.1 in (
       wire_calls wire,
       c.perform-answer.ensures,
       remote_watched_went_over g.K.CallSink.got g.B.InitialStreams.way g.R.Read.remaining g.W.Write.contents

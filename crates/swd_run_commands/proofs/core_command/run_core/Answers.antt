@@ -1,10 +1,9 @@
-use Rattle.std.proofs.Common.{refl, inr}
-use Rattle.swd_check.specs.Checkings.{checking_contents}
+use Rattle.std.proofs.Common.{refl, inr, false}
 use Rattle.swd_console.specs.Streams.{stream_watched}
 use Rattle.swd_script.specs.Readers.{read_script_meaning}
 use Rattle.swd_script.proofs.TextLaws.{script_is_runnable}
 use Rattle.swd_run_commands.specs.Cores.{core_line_text}
-use Rattle.swd_run_commands.proofs.RecordLemmas.{remote_command_files_named}
+use Rattle.swd_run_commands.proofs.RecordLemmas.{run_command_files_named}
 use Rattle.swd_run_commands.proofs.core_command.run_core.Goals as goal
 
 pub report_to_file-ran-requires-clause-script : goal.report_to_file-ran-requires-clause-script
@@ -13,9 +12,8 @@ report_to_file-ran-requires-clause-script g c =
 
 pub report_to_file-ran-requires-clause-files : goal.report_to_file-ran-requires-clause-files
 report_to_file-ran-requires-clause-files g c =
-    remote_command_files_named (stream_watched (checking_contents (stream_watched g.F.Made.Write.contents)))
-    c.args.core.now.run c.in-Ok.records c.checked_records-records.result c.in-Ok.ensures.ok
-    c.checked_records-records.ensures
+    run_command_files_named (stream_watched g.F.Made.Write.contents) c.args.core.now.run false c.in-Ok.records
+    c.in-Ok.ensures.ok
 
 pub returns : goal.returns
 returns g c = inr (

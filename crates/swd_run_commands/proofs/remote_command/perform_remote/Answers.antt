@@ -1,8 +1,8 @@
-use Rattle.swd_check.specs.Checkings.{checking_contents}
+use Rattle.std.proofs.Common.{false}
 use Rattle.swd_console.specs.Streams.{stream_watched}
 use Rattle.swd_script.specs.Readers.{read_script_meaning}
 use Rattle.swd_script.proofs.TextLaws.{script_is_runnable}
-use Rattle.swd_run_commands.proofs.RecordLemmas.{remote_command_files_named}
+use Rattle.swd_run_commands.proofs.RecordLemmas.{run_command_files_named}
 use Rattle.swd_run_commands.proofs.remote_command.perform_remote.Goals as goal
 
 pub report_to_file-requires-clause-script : goal.report_to_file-requires-clause-script
@@ -12,9 +12,8 @@ report_to_file-requires-clause-script g c =
 
 pub report_to_file-requires-clause-files : goal.report_to_file-requires-clause-files
 report_to_file-requires-clause-files g c =
-    remote_command_files_named (stream_watched (checking_contents (stream_watched g.F.Made.Write.contents)))
-    c.args.run.now c.in-Ok-open_records.records c.checked_records-records.result c.in-Ok-open_records.ensures.ok
-    c.checked_records-records.ensures
+    run_command_files_named (stream_watched g.F.Made.Write.contents) c.args.run.now false c.in-Ok-open_records.records
+    c.in-Ok-open_records.ensures.ok
 
 pub report_to_errors-requires-clause-script : goal.report_to_errors-requires-clause-script
 report_to_errors-requires-clause-script g c =
@@ -23,6 +22,5 @@ report_to_errors-requires-clause-script g c =
 
 pub report_to_errors-requires-clause-files : goal.report_to_errors-requires-clause-files
 report_to_errors-requires-clause-files g c =
-    remote_command_files_named (stream_watched (checking_contents (stream_watched g.F.Made.Write.contents)))
-    c.args.run.now c.in-Ok-open_records.records c.checked_records-records.result c.in-Ok-open_records.ensures.ok
-    c.checked_records-records.ensures
+    run_command_files_named (stream_watched g.F.Made.Write.contents) c.args.run.now false c.in-Ok-open_records.records
+    c.in-Ok-open_records.ensures.ok

@@ -5,15 +5,15 @@ use Rattle.swd_run.specs.Wires.{run_story_wire}
 use Rattle.swd_image_ends.proofs.CameLemmas.{verify_came_by}
 use Rattle.swd_image_ends.proofs.jobs.VerifyJobLineJob.perform.Goals as goal
 
-pub verify_pieces-requires : goal.verify_pieces-requires
-verify_pieces-requires g c = ap port_due_by c.requires
+pub verify_pieces-answer-requires : goal.verify_pieces-answer-requires
+verify_pieces-answer-requires g c = ap port_due_by c.requires
 
 pub returns : goal.returns
 returns g c =
     verify_came_by (λ w. wire_calls w) (run_story_wire g.P.Story.at) _ _ _ _ _ _ _ _ c.requires
     (record {
-      verifies = c.verify_pieces.ensures.verifies;
-      fault = c.verify_pieces.ensures.fault;
+      verifies = c.verify_pieces-answer.ensures.verifies;
+      fault = c.verify_pieces-answer.ensures.fault;
       report =
-          c.verify_pieces.ensures.report;
+          c.verify_pieces-answer.ensures.report;
     })
