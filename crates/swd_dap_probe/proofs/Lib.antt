@@ -1,4 +1,6 @@
 pub mod ClockLemmas
 pub mod ItemLemmas
+pub mod MotionLemmas
 pub mod ReplyLemmas
 pub mod SequenceLemmas
+pub mod TransactionLemmas

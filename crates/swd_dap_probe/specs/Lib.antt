@@ -4,4 +4,5 @@ pub mod Packets
 pub mod Plain
 pub mod Sequences
 pub mod Shapes
+pub mod Transactions
 pub mod Transfers

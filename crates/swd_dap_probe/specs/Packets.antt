@@ -9,7 +9,9 @@ use Rattle.swd_dap_probe.specs.declared.processor.Processor.{Processor}
 use Rattle.swd_dap_probe.specs.Commands.{dap_command_of, dap_command_number}
 use Rattle.swd_dap_probe.specs.Shapes.{dap_drive_clocks, dap_command_shape, IsDapTaken, IsDapRefused}
 use Rattle.swd_dap_probe.specs.Sequences.{dap_bits, dap_sequences, DapSequencesGo}
-use Rattle.swd_dap_probe.specs.Plain.{dap_plain_reply, dap_settings_after, dap_settings_before}
+use Rattle.swd_dap_probe.specs.Plain.{dap_plain_reply, dap_settings_after, dap_settings_before, dap_word}
+use Rattle.swd_dap_probe.specs.Transactions.{DapMakes, DapTransaction, dap_abort}
+use Rattle.swd_dap_probe.specs.declared.transaction.Answer.{Answer}
 
 -- the most bytes of a packet
 abbrev pub processor_size : {L : Type 0} → Processor L → ℕ
@@ -47,11 +49,20 @@ pub record DapSequencesMade {L : Type 0} (clock : SequenceClock L) (bytes told :
   pub after : t ≡ record s { line = t.line }
   pub is : told ≡ 0x1d ∷ 0 ∷ levels
 
--- a command that makes transactions
-pub record DapTransacts {L : Type 0} (command : Command) (told : List ℕ) (s t : Processor L) : Type 0 where
+-- DAP_Transfer and DAP_TransferBlock: requests are made, and nothing else
+pub record DapTransacts {L : Type 0} (clock : SequenceClock L) (command : Command) (told : List ℕ) (s t : Processor L) :
+    Type 0 where
+  pub makes : DapMakes clock s.settings s.line t.line
   pub after : t ≡ record s { line = t.line; mask = t.mask }
   pub behind : List ℕ
   pub is : told ≡ dap_command_number command ∷ behind
+
+-- DAP_WriteABORT: one transaction, a write of the word behind the first two bytes
+pub record DapAborts {L : Type 0} (clock : SequenceClock L) (bytes told : List ℕ) (s t : Processor L) : Type 0 where
+  pub answer : Answer
+  pub makes : DapTransaction clock s.settings dap_abort (dap_word bytes 2) answer s.line t.line
+  pub after : t ≡ record s { line = t.line }
+  pub is : told ≡ 0x08 ∷ 0 ∷ []
 
 -- nRESET is set, if a bit selects it
 abbrev pub DapResets : {L : Type 0} → (Bool → L → L → Type 0) → Bool → Bool → Processor L → Processor L → Type 0
@@ -73,9 +84,9 @@ abbrev pub ProbeDoes : {L : Type 0} → SequenceClock L → (Bool → L → L �
     → Processor L → Processor L → Type 0
 ProbeDoes clock resets DriveSequence bytes told s t = DapDrives clock bytes told s t
 ProbeDoes clock resets WireSequence bytes told s t = DapSequencesMade clock bytes told s t
-ProbeDoes clock resets Transfer bytes told s t = DapTransacts Transfer told s t
-ProbeDoes clock resets TransferBlock bytes told s t = DapTransacts TransferBlock told s t
-ProbeDoes clock resets WriteAbort bytes told s t = DapTransacts WriteAbort told s t
+ProbeDoes clock resets Transfer bytes told s t = DapTransacts clock Transfer told s t
+ProbeDoes clock resets TransferBlock bytes told s t = DapTransacts clock TransferBlock told s t
+ProbeDoes clock resets WriteAbort bytes told s t = DapAborts clock bytes told s t
 ProbeDoes clock resets Pins bytes told s t = DapSetsPins resets bytes told s t
 ProbeDoes clock resets command bytes told s t = DapSets command bytes told s t
 

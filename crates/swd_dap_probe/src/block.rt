@@ -2,6 +2,7 @@
 ghost use Rattle.std.specs.Prelude.{◌≤◌, ◌<◌, ◌+◌, ◌*◌, length};
 ghost use Rattle.swd_dap_probe.specs.Shapes.{dap_block_shape};
 ghost use Rattle.swd_dap_probe.specs.Packets.{DapAppends, IsDapReplyOf};
+ghost use Rattle.swd_dap_probe.specs.Transactions.{DapMakes};
 
 use crate::line::ProbeLine;
 use crate::reply::{Reply, put};
@@ -23,7 +24,9 @@ fn read_at(request: Request, place: u16, count: u16) -> Request
 }
 
 // Makes the read of the access port whose word the first read of a block returns.
-fn post<L: ProbeLine>(line: &mut L, settings: &Settings, request: Request) -> u8 {
+fn post<L: ProbeLine>(line: &mut L, settings: &Settings, request: Request) -> u8
+    ensures makes { DapMakes L.clocks settings.now line.old line.new }
+{
     if request.ap {
         persist(line, settings, request, 0).value()
     } else {
@@ -42,6 +45,7 @@ fn read_block<L: ProbeLine>(
     requires { length words.old.items + 4 * count ≤ 512 }
     ensures room { length words.new.items ≤ length words.old.items + 4 * count }
     ensures count { result.count ≤ count }
+    ensures makes { DapMakes L.clocks settings.now line.old line.new }
 {
     let mut value = post(line, settings, request);
     if value != OK {
@@ -69,6 +73,7 @@ fn write_block<L: ProbeLine>(
 ) -> Done
     requires { 4 * count ≤ length bytes.now }
     ensures count { result.count ≤ count }
+    ensures makes { DapMakes L.clocks settings.now line.old line.new }
 {
     for place in 0..count {
         let word = word_at(bytes, 4 * usize::from(place));
@@ -96,6 +101,7 @@ pub(crate) fn transfer_block<L: ProbeLine>(
     requires whole { (dap_block_shape request.now).request ≤ length request.now }
     requires room { length reply.old.items + (dap_block_shape request.now).reply ≤ 512 }
     ensures told { DapAppends (IsDapReplyOf 6) (dap_block_shape request.now).reply reply.old.items reply.new.items }
+    ensures makes { DapMakes L.clocks settings.now line.old line.new }
 {
     let mut words = Reply::new();
     let count = block_count(request);

@@ -3,7 +3,7 @@ ghost use Rattle.std.specs.Prelude.{◌≡◌, ◌≤◌, ◌+◌, [], length, s
 ghost use Rattle.swd_dap_probe.specs.Shapes.{dap_shape_by, dap_fixed_shape, dap_command_shape, dap_packet_shape};
 ghost use Rattle.swd_dap_probe.specs.Shapes.{dap_packet_shape_by, dap_long, dap_most};
 ghost use Rattle.swd_dap_probe.specs.Packets.{DapAppends, ProbeDoes, DapCommandGoes, DapCommandsGo, DapPacketGoes};
-ghost use Rattle.swd_dap_probe.specs.Packets.{DapTransacts, DapDrives, DapSequencesMade, DapSetsPins, DapSets};
+ghost use Rattle.swd_dap_probe.specs.Packets.{DapTransacts, DapAborts, DapDrives, DapSequencesMade, DapSetsPins, DapSets};
 ghost use Rattle.swd_dap_probe.specs.Plain.{dap_info_reply, dap_settings_after};
 ghost use Rattle.swd_dap_probe.specs.Commands.{dap_command_of};
 ghost use Rattle.swd_dap_probe.specs.declared.command.Command.{Command};
@@ -97,7 +97,7 @@ fn command<L: ProbeLine>(
 fn transfers<L: ProbeLine>(probe: &mut Processor<L>, bytes: &[u8], reply: &mut Reply)
     requires whole { (dap_shape_by Command.Transfer bytes.now).request ≤ length bytes.now }
     requires room { length reply.old.items + (dap_shape_by Command.Transfer bytes.now).reply ≤ 512 }
-    ensures { DapAppends (λ told. DapTransacts Command.Transfer told probe.old probe.new)
+    ensures { DapAppends (λ told. DapTransacts L.clocks Command.Transfer told probe.old probe.new)
         (dap_shape_by Command.Transfer bytes.now).reply reply.old.items reply.new.items }
 {
     transfer(
@@ -113,7 +113,7 @@ fn transfers<L: ProbeLine>(probe: &mut Processor<L>, bytes: &[u8], reply: &mut R
 fn block<L: ProbeLine>(probe: &mut Processor<L>, bytes: &[u8], reply: &mut Reply)
     requires whole { (dap_shape_by Command.TransferBlock bytes.now).request ≤ length bytes.now }
     requires room { length reply.old.items + (dap_shape_by Command.TransferBlock bytes.now).reply ≤ 512 }
-    ensures { DapAppends (λ told. DapTransacts Command.TransferBlock told probe.old probe.new)
+    ensures { DapAppends (λ told. DapTransacts L.clocks Command.TransferBlock told probe.old probe.new)
         (dap_shape_by Command.TransferBlock bytes.now).reply reply.old.items reply.new.items }
 {
     transfer_block(&mut probe.line, &probe.settings, bytes, reply);
@@ -145,7 +145,7 @@ fn wire<L: ProbeLine>(probe: &mut Processor<L>, bytes: &[u8], reply: &mut Reply)
 fn write_abort<L: ProbeLine>(probe: &mut Processor<L>, bytes: &[u8], reply: &mut Reply)
     requires whole { 6 ≤ length bytes.now }
     requires room { length reply.old.items + 2 ≤ 512 }
-    ensures { DapAppends (λ told. DapTransacts Command.WriteAbort told probe.old probe.new) 2
+    ensures { DapAppends (λ told. DapAborts L.clocks bytes.now told probe.old probe.new) 2
         reply.old.items reply.new.items }
 {
     let _ = transact(&mut probe.line, &probe.settings, ABORT, word_at(bytes, 2));

@@ -1,5 +1,10 @@
 //! Transactions of serial wire, by the probe itself.
-ghost use Rattle.std.specs.Prelude.{◌<◌, ◌^◌};
+ghost use Rattle.std.specs.Prelude.{ℕ, ◌≡◌, ◌<◌, ◌^◌, Bool, true, false, []};
+ghost use Rattle.swd_bits.specs.Phases.{data_phase_word};
+ghost use Rattle.swd_sequences.specs.Going.{SequencesGoBy};
+ghost use Rattle.swd_dap_probe.specs.Transactions.{DapAsks, DapBehind, DapSamples, DapTransaction, DapPersists};
+ghost use Rattle.swd_dap_probe.specs.Transactions.{dap_take, dap_give, dap_pass, dap_back_off, dap_value};
+ghost use Rattle.swd_dap_probe.specs.Transactions.{dap_word_answer};
 
 use crate::clocks::{drive, hold, release, sample};
 use crate::line::ProbeLine;
@@ -40,7 +45,9 @@ pub(crate) enum Answer {
 
 impl Answer {
     /// Returns its number in a reply.
-    pub(crate) fn value(self) -> u8 {
+    pub(crate) fn value(self) -> u8
+        ensures { result ≡ dap_value self }
+    {
         match self {
             Answer::Okay(_) => OK,
             Answer::Wait => 2,
@@ -54,6 +61,7 @@ impl Answer {
 // Sends a request, and returns the three bits of the acknowledgement.
 fn ask<L: ProbeLine>(line: &mut L, settings: &Settings, request: Request) -> u8
     ensures bound { result < 8 }
+    ensures asks { DapAsks L.clocks settings.now request result line.old line.new }
 {
     drive(line, u64::from(request.bits()), 8);
     release(line, settings.turnaround);
@@ -63,6 +71,7 @@ fn ask<L: ProbeLine>(line: &mut L, settings: &Settings, request: Request) -> u8
 // Samples a data phase, and passes the turnaround and the idle cycles.
 fn take_bits<L: ProbeLine>(line: &mut L, settings: &Settings) -> u64
     ensures bound { result < 2 ^ 33 }
+    ensures takes { DapSamples L.clocks (dap_take settings.now) result line.old line.new }
 {
     let sent = sample(line, 33);
     release(line, settings.turnaround);
@@ -71,7 +80,10 @@ fn take_bits<L: ProbeLine>(line: &mut L, settings: &Settings) -> u64
 }
 
 // Reads a word.
-fn take<L: ProbeLine>(line: &mut L, settings: &Settings) -> Answer {
+fn take<L: ProbeLine>(line: &mut L, settings: &Settings) -> Answer
+    ensures { (sent : ℕ) × DapSamples L.clocks (dap_take settings.now) sent line.old line.new
+        × (result ≡ dap_word_answer (data_phase_word sent)) }
+{
     let sent = take_bits(line, settings);
     match word_of(sent) {
         Some(word) => Answer::Okay(word),
@@ -80,27 +92,34 @@ fn take<L: ProbeLine>(line: &mut L, settings: &Settings) -> Answer {
 }
 
 // Passes the turnaround, and writes a word and the idle cycles.
-fn give<L: ProbeLine>(line: &mut L, settings: &Settings, word: u32) -> Answer {
+fn give<L: ProbeLine>(line: &mut L, settings: &Settings, word: u32)
+    ensures { SequencesGoBy L.clocks (dap_give settings.now word) [] line.old line.new }
+{
     release(line, settings.turnaround);
     drive(line, data_bits(word), 33);
     hold(line, false, settings.idle);
-    Answer::Okay(0)
 }
 
 // Releases the line for a data phase and for the turnaround.
-fn pass_phase<L: ProbeLine>(line: &mut L, settings: &Settings) {
+fn pass_phase<L: ProbeLine>(line: &mut L, settings: &Settings)
+    ensures { SequencesGoBy L.clocks (dap_back_off settings.now) [] line.old line.new }
+{
     release(line, 33);
     release(line, settings.turnaround);
 }
 
 // Passes the turnaround, and drives a data phase low.
-fn pass_low<L: ProbeLine>(line: &mut L, settings: &Settings) {
+fn pass_low<L: ProbeLine>(line: &mut L, settings: &Settings)
+    ensures { SequencesGoBy L.clocks (dap_pass settings.now true false) [] line.old line.new }
+{
     release(line, settings.turnaround);
     hold(line, false, 33);
 }
 
 // Passes the turnaround behind WAIT and FAULT, and the data phase, if there is one.
-fn pass<L: ProbeLine>(line: &mut L, settings: &Settings, read: bool) {
+fn pass<L: ProbeLine>(line: &mut L, settings: &Settings, read: bool)
+    ensures { SequencesGoBy L.clocks (dap_pass settings.now settings.now.data_phase read) [] line.old line.new }
+{
     match (settings.data_phase, read) {
         (true, true) => pass_phase(line, settings),
         (true, false) => pass_low(line, settings),
@@ -109,7 +128,9 @@ fn pass<L: ProbeLine>(line: &mut L, settings: &Settings, read: bool) {
 }
 
 // Passes the turnaround.
-fn release_turnaround<L: ProbeLine>(line: &mut L, settings: &Settings) {
+fn release_turnaround<L: ProbeLine>(line: &mut L, settings: &Settings)
+    ensures { (read : Bool) → SequencesGoBy L.clocks (dap_pass settings.now false read) [] line.old line.new }
+{
     release(line, settings.turnaround);
 }
 
@@ -120,10 +141,15 @@ fn behind<L: ProbeLine>(
     request: Request,
     word: u32,
     seen: u8,
-) -> Answer {
+) -> Answer
+    ensures { DapBehind L.clocks settings.now request word seen result line.old line.new }
+{
     match seen {
         1 if request.read => take(line, settings),
-        1 => give(line, settings, word),
+        1 => {
+            give(line, settings, word);
+            Answer::Okay(0)
+        }
         2 => {
             pass(line, settings, request.read);
             Answer::Wait
@@ -145,7 +171,9 @@ pub(crate) fn transact<L: ProbeLine>(
     settings: &Settings,
     request: Request,
     word: u32,
-) -> Answer {
+) -> Answer
+    ensures { DapTransaction L.clocks settings.now request word result line.old line.new }
+{
     let seen = ask(line, settings, request);
     behind(line, settings, request, word, seen)
 }
@@ -156,7 +184,9 @@ pub(crate) fn persist<L: ProbeLine>(
     settings: &Settings,
     request: Request,
     word: u32,
-) -> Answer {
+) -> Answer
+    ensures { DapPersists L.clocks settings.now request word result line.old line.new }
+{
     for place in 0..settings.retries {
         match transact(line, settings, request, word) {
             Answer::Wait => {}

@@ -2,6 +2,7 @@
 ghost use Rattle.std.specs.Prelude.{◌≡◌, ◌≤◌, ◌<◌, ◌+◌, ◌*◌, [], length, slice_index, IfSome};
 ghost use Rattle.swd_dap_probe.specs.Plain.{dap_word};
 ghost use Rattle.swd_dap_probe.specs.Shapes.{dap_item_shape, dap_shape_by, dap_reads};
+ghost use Rattle.swd_dap_probe.specs.Transactions.{DapMakes};
 ghost use Rattle.swd_dap_probe.specs.Transfers.{dap_asked_bytes, dap_pending_bytes};
 ghost use Rattle.swd_dap_probe.specs.Packets.{DapAppends, IsDapReplyOf};
 ghost use Rattle.swd_dap_probe.specs.declared.command.Command.{Command};
@@ -107,6 +108,7 @@ pub(crate) fn read_word<L: ProbeLine>(
 ) -> u8
     requires { length words.old.items + 4 ≤ 512 }
     ensures room { length words.new.items ≤ length words.old.items + 4 }
+    ensures makes { DapMakes L.clocks settings.now line.old line.new }
 {
     let answer = persist(line, settings, request, 0);
     if let Answer::Okay(word) = answer {
@@ -123,7 +125,9 @@ fn seek<L: ProbeLine>(
     mask: u32,
     request: Request,
     wanted: u32,
-) -> u8 {
+) -> u8
+    ensures makes { DapMakes L.clocks settings.now line.old line.new }
+{
     if request.ap {
         let value = persist(line, settings, request, 0).value();
         if value != OK {
@@ -159,6 +163,7 @@ fn fetch<L: ProbeLine>(line: &mut L, settings: &Settings, run: &mut Run, words: 
     requires { length words.old.items + dap_pending_bytes run.old.pending ≤ 512 }
     ensures none { dap_pending_bytes run.new.pending ≡ 0 }
     ensures room { length words.new.items ≤ length words.old.items + dap_pending_bytes run.old.pending }
+    ensures makes { DapMakes L.clocks settings.now line.old line.new }
 {
     match run.pending {
         Pending::Word => {
@@ -181,6 +186,7 @@ fn perform<L: ProbeLine>(
     requires room { length words.old.items + dap_asked_bytes asked ≤ 512 }
     ensures room { length words.new.items + dap_pending_bytes run.new.pending
         ≤ length words.old.items + dap_asked_bytes asked }
+    ensures makes { DapMakes L.clocks settings.now line.old line.new }
 {
     match asked {
         Asked::Mask(word) => {
@@ -227,8 +233,9 @@ fn fetch_and_perform<L: ProbeLine>(
     words: &mut Reply,
 ) -> u8
     requires { length words.old.items + dap_pending_bytes run.old.pending + dap_asked_bytes asked ≤ 512 }
-    ensures { length words.new.items + dap_pending_bytes run.new.pending
+    ensures room { length words.new.items + dap_pending_bytes run.new.pending
         ≤ length words.old.items + dap_pending_bytes run.old.pending + dap_asked_bytes asked }
+    ensures makes { DapMakes L.clocks settings.now line.old line.new }
 {
     let value = fetch(line, settings, run, words);
     if value == OK {
@@ -247,8 +254,9 @@ fn next<L: ProbeLine>(
     words: &mut Reply,
 ) -> u8
     requires { length words.old.items + dap_pending_bytes run.old.pending + dap_asked_bytes asked ≤ 512 }
-    ensures { length words.new.items + dap_pending_bytes run.new.pending
+    ensures room { length words.new.items + dap_pending_bytes run.new.pending
         ≤ length words.old.items + dap_pending_bytes run.old.pending + dap_asked_bytes asked }
+    ensures makes { DapMakes L.clocks settings.now line.old line.new }
 {
     match read_again(run.pending, asked) {
         Some(request) => read_word(line, settings, request, words),
@@ -265,6 +273,7 @@ fn finish<L: ProbeLine>(
 ) -> u8
     requires { length words.old.items + dap_pending_bytes pending ≤ 512 }
     ensures room { length words.new.items ≤ length words.old.items + dap_pending_bytes pending }
+    ensures makes { DapMakes L.clocks settings.now line.old line.new }
 {
     match pending {
         Pending::Nothing => OK,
@@ -289,6 +298,7 @@ fn perform_all<L: ProbeLine>(
     ensures room { 3 + length words.new.items
         ≤ (dap_shape_by Command.Transfer request.now).reply }
     ensures count { result.count ≤ slice_index request.now 2 }
+    ensures makes { DapMakes L.clocks settings.now line.old line.new }
 {
     let mut run = Run {
         mask: *mask,
@@ -331,6 +341,7 @@ pub(crate) fn transfer<L: ProbeLine>(
     ensures told { DapAppends (IsDapReplyOf 5)
         (dap_shape_by Command.Transfer request.now).reply
         reply.old.items reply.new.items }
+    ensures makes { DapMakes L.clocks settings.now line.old line.new }
 {
     let mut words = Reply::new();
     let done = perform_all(line, settings, mask, request, &mut words);
