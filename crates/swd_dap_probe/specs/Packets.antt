@@ -1,5 +1,5 @@
 -- What a probe does with a packet.
-use Rattle.std.specs.Prelude.{ℕ, zero, suc, ◌≡◌, ◌+◌, ◌≤◌, Bool, true, false, List, [], ◌∷◌, ◌++◌, length, drop}
+use Rattle.std.specs.Prelude.{ℕ, zero, suc, ◌≡◌, ◌≤◌, Bool, true, false, List, [], ◌∷◌, ◌++◌, length, drop}
 use Rattle.std.specs.Prelude.{slice_index, if◌then◌else◌, nat_le, map, Some, ◌⊎◌}
 use Rattle.swd_sequences.specs.Going.{SequenceClock, SequenceClocksGoBy}
 use Rattle.swd_dap_probe.specs.declared.command.Command.{Command}

@@ -1,5 +1,5 @@
 -- Transactions of serial wire, as a probe makes them: IHI 0031, "Serial Wire Debug protocol".
-use Rattle.std.specs.Prelude.{ℕ, zero, suc, ◌≡◌, ◌+◌, ◌≤◌, Bool, true, false, List, [], ◌∷◌, Option, Some, None, ⊥}
+use Rattle.std.specs.Prelude.{ℕ, zero, suc, ◌≡◌, ◌≤◌, Bool, true, false, List, [], ◌∷◌, Option, Some, None}
 use Rattle.swd_bits.specs.declared.request.Request.{Request}
 use Rattle.swd_bits.specs.declared.request.Reg4.TheVariants.{R0}
 use Rattle.swd_bits.specs.Bits.{low_bits, bits_number}
@@ -114,5 +114,6 @@ DapMadeGo {L} clock settings (made ∷ more) s t = (m : L)
     × DapPersists clock settings made.request made.word made.answer s m × DapMadeGo clock settings more m t
 
 -- some requests, and nothing else
-abbrev pub DapMakes : {L : Type 0} → SequenceClock L → Settings → L → L → Type 0
-DapMakes clock settings s t = (made : List DapMade) × DapMadeGo clock settings made s t
+pub record DapMakes {L : Type 0} (clock : SequenceClock L) (settings : Settings) (s t : L) : Type 0 where
+  pub made : List DapMade
+  pub go : DapMadeGo clock settings made s t

@@ -9,7 +9,7 @@ use crate::reply::{Reply, put};
 use crate::settings::Settings;
 use crate::shape::block_count;
 use crate::transaction::{OK, RDBUFF, persist};
-use crate::transfers::{Done, read_word, request_of, word_at};
+use crate::transfers::{Done, post, read_word, request_of, word_at};
 use swd_bits::Request;
 
 // Returns the request of a read. Of the access port, the last is a read of RDBUFF.
@@ -23,18 +23,8 @@ fn read_at(request: Request, place: u16, count: u16) -> Request
     }
 }
 
-// Makes the read of the access port whose word the first read of a block returns.
-fn post<L: ProbeLine>(line: &mut L, settings: &Settings, request: Request) -> u8
-    ensures makes { DapMakes L.clocks settings.now line.old line.new }
-{
-    if request.ap {
-        persist(line, settings, request, 0).value()
-    } else {
-        OK
-    }
-}
-
 // Reads so many words, at least one.
+#[tactic(auto, using(crate::proofs::TransactionLemmas::makes_none, crate::proofs::TransactionLemmas::makes_then))]
 fn read_block<L: ProbeLine>(
     line: &mut L,
     settings: &Settings,
@@ -64,6 +54,7 @@ fn read_block<L: ProbeLine>(
 }
 
 // Writes so many words, at least one, and reads RDBUFF behind them.
+#[tactic(auto, using(crate::proofs::TransactionLemmas::makes_none, crate::proofs::TransactionLemmas::makes_then))]
 fn write_block<L: ProbeLine>(
     line: &mut L,
     settings: &Settings,
@@ -92,6 +83,7 @@ fn write_block<L: ProbeLine>(
 }
 
 /// Performs `DAP_TransferBlock`.
+#[tactic(auto, using(crate::proofs::TransactionLemmas::makes_none))]
 pub(crate) fn transfer_block<L: ProbeLine>(
     line: &mut L,
     settings: &Settings,

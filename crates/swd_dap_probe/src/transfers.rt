@@ -117,8 +117,21 @@ pub(crate) fn read_word<L: ProbeLine>(
     answer.value()
 }
 
+/// Makes a read if it is one of the access port. The read behind it returns its word. Returns how it was answered.
+#[tactic(auto, using(crate::proofs::TransactionLemmas::makes_none))]
+pub(crate) fn post<L: ProbeLine>(line: &mut L, settings: &Settings, request: Request) -> u8
+    ensures makes { DapMakes L.clocks settings.now line.old line.new }
+{
+    if request.ap {
+        persist(line, settings, request, 0).value()
+    } else {
+        OK
+    }
+}
+
 // Makes a read until its word matches, and one read before of the access port, whose reads return the word of the one
 // before.
+#[tactic(auto, using(crate::proofs::TransactionLemmas::makes_none, crate::proofs::TransactionLemmas::makes_then))]
 fn seek<L: ProbeLine>(
     line: &mut L,
     settings: &Settings,
@@ -128,11 +141,9 @@ fn seek<L: ProbeLine>(
 ) -> u8
     ensures makes { DapMakes L.clocks settings.now line.old line.new }
 {
-    if request.ap {
-        let value = persist(line, settings, request, 0).value();
-        if value != OK {
-            return value;
-        }
+    let value = post(line, settings, request);
+    if value != OK {
+        return value;
     }
     for place in 0..u32::from(settings.matches) + 1 {
         match persist(line, settings, request, 0) {
@@ -159,6 +170,7 @@ fn pending_behind(value: u8, then: Pending) -> Pending
 }
 
 // Fetches the word of a read that was made before, if there is one.
+#[tactic(auto, using(crate::proofs::TransactionLemmas::makes_none))]
 fn fetch<L: ProbeLine>(line: &mut L, settings: &Settings, run: &mut Run, words: &mut Reply) -> u8
     requires { length words.old.items + dap_pending_bytes run.old.pending ≤ 512 }
     ensures none { dap_pending_bytes run.new.pending ≡ 0 }
@@ -175,6 +187,7 @@ fn fetch<L: ProbeLine>(line: &mut L, settings: &Settings, run: &mut Run, words: 
 }
 
 // Performs a request, behind which no word is left of an earlier one.
+#[tactic(auto, using(crate::proofs::TransactionLemmas::makes_none))]
 fn perform<L: ProbeLine>(
     line: &mut L,
     settings: &Settings,
@@ -225,6 +238,7 @@ fn read_again(pending: Pending, asked: Asked) -> Option<Request>
 }
 
 // Fetches the word of a read that was made before, if there is one, and performs a request if that was OK.
+#[tactic(auto, using(crate::proofs::TransactionLemmas::makes_then))]
 fn fetch_and_perform<L: ProbeLine>(
     line: &mut L,
     settings: &Settings,
@@ -265,6 +279,7 @@ fn next<L: ProbeLine>(
 }
 
 // Makes the read that is pending behind the last request.
+#[tactic(auto, using(crate::proofs::TransactionLemmas::makes_none))]
 fn finish<L: ProbeLine>(
     line: &mut L,
     settings: &Settings,
@@ -283,6 +298,7 @@ fn finish<L: ProbeLine>(
 }
 
 // Performs requests up to the first that isn't OK.
+#[tactic(auto, using(crate::proofs::TransactionLemmas::makes_none, crate::proofs::TransactionLemmas::makes_then))]
 fn perform_all<L: ProbeLine>(
     line: &mut L,
     settings: &Settings,

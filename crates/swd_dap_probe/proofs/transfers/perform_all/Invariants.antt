@@ -1,14 +1,16 @@
 use Rattle.std.proofs.Common.{◌≤◌, ◌+◌, ◌-◌, length, get_or, drop}
 use Rattle.swd_dap_probe.specs.declared.shape.Items.TheVariants.{Transfers}
 use Rattle.swd_dap_probe.specs.Shapes.{dap_item_shape, dap_long, dap_most}
+use Rattle.swd_dap_probe.specs.Transactions.{DapMakes}
 use Rattle.swd_dap_probe.specs.Transfers.{dap_pending_bytes}
 use Rattle.swd_dap_probe.proofs.transfers.perform_all.Given as goal
 
--- there is room for the words that may come
+-- there is room for the words that may come, and only requests were made so far
 abbrev pub invariant-loop-place : goal.invariant-loop-place
 invariant-loop-place g l = record {
   whole : dap_long (dap_item_shape Transfers) (get_or l.request 2 0 - l.place) l.rest ≤ length l.rest;
   room : length l.words.items + dap_pending_bytes l.run.pending
       + dap_most (dap_item_shape Transfers) (get_or l.request 2 0 - l.place) l.rest
       ≤ dap_most (dap_item_shape Transfers) (get_or l.request 2 0) (drop 3 l.request);
+  makes : DapMakes g.L.ProbeLine.clocks l.settings l.fn.line l.line;
 }
