@@ -3,7 +3,7 @@ ghost use Rattle.std.specs.Prelude.{ℕ, ◌≡◌, ◌≤◌, ◌++◌, ◌∷�
 ghost use Rattle.swd_io.specs.Blocks.{BlockQueues};
 ghost use Rattle.swd_packets.specs.Packets.{PacketsStep, IsPacketsEnd, PacketsPerform, packets_pins, packet_frame};
 ghost use Rattle.swd_packets.specs.Packets.{packet_told, IsPacketsAtRest};
-ghost use Rattle.swd_packets.proofs.PacketLemmas.{packets_reach};
+ghost use Rattle.swd_packets.specs.Reaches.{packets_reach};
 
 use crate::line::PinsLine;
 use arrayvec::ArrayVec;
