@@ -23,7 +23,7 @@ pub enum CommandLine {
     /// `[--tries N] [--resume N] [--trace FILE] [--accesses FILE] [--strict] [--progress]` too.
     Run(RunLine),
     /// `swd target MEMORY [--plan FILE] [--log FILE] [--trace FILE] [--idr WORD]`. MEMORY is SCRIPT or
-    /// `--memory FILE [--base ADDR]`.
+    /// `--memory FILE [--base ADDR]`. `swd probe` takes the same, and `[--size N]`.
     Target(TargetLine),
     /// `swd info --remote[=IN,OUT] [--tries N]`.
     Info(InfoLine),
@@ -166,7 +166,7 @@ pub struct ScriptLine {
     pub plan: Option<String>,
 }
 
-/// The arguments of `swd target`.
+/// The arguments of `swd target` and `swd probe`.
 #[derive(Debug, Drop)]
 pub struct TargetLine {
     /// The target's memory, with its plan.
@@ -177,6 +177,8 @@ pub struct TargetLine {
     pub trace: Option<String>,
     /// IDR of the access port, if it has one.
     pub idr: Option<u32>,
+    /// The most bytes of a packet of CMSIS-DAP. `None` for a host of remote_bitbang.
+    pub packets: Option<u32>,
 }
 
 /// The arguments of `swd info`.

@@ -1,4 +1,4 @@
--- What `swd target` does with a memory that is in a file.
+-- What `swd target` and `swd probe` do with a memory that is in a file.
 use Rattle.std.specs.Prelude.{ℕ, ◌≡◌, ◌⊎◌, ◌+◌, ◌-◌, ◌*◌, ◌/◌, ◌^◌, min, false, List, [], length}
 use Rattle.std.specs.Prelude.{Option, None, Result, Ok, Err}
 use Rattle.swd_io.specs.Pieces.{IsReaderText}
@@ -11,7 +11,6 @@ use Rattle.swd_clocked.specs.Marked.{marked_clocked_state}
 use Rattle.swd_bitbang.specs.declared.serving.Served.{Served}
 use Rattle.swd_bitbang.specs.declared.trace.Trace.{Trace}
 use Rattle.swd_bitbang.specs.declared.pins.Pins.{Pins}
-use Rattle.swd_bitbang.specs.Sessions.{BitbangServes}
 use Rattle.swd_bitbang.specs.Traces.{is_pins_trace_cut_off}
 use Rattle.swd_ends.specs.Serving.{AreTargetEndPinsAtRest, IsTargetEndMade}
 use Rattle.swd_image_ends.specs.Memories.{ImageEndHasRoom, AreImageEndWholeWords, image_end_words_in}
@@ -20,7 +19,7 @@ use Rattle.swd_command_line.specs.declared.command.ServedMemory.{ServedMemory}
 use Rattle.swd_command_line.specs.declared.command.ServedMemory.TheVariants.{Script, File}
 use Rattle.swd_console.specs.MemoryFiles.{CommandWritesBack}
 use Rattle.swd_console.specs.Statuses.{CommandNotOpened}
-use Rattle.swd_run_commands.specs.Targets.{IsServedCommandStatus, TargetCommandServesHost}
+use Rattle.swd_run_commands.specs.Targets.{IsServedCommandStatus, ServesHost, TargetCommandServesHost}
 
 -- the room of a session at a memory of so many words: 16 transfers for each word, and 65,536 more. It is smaller only
 -- where the log would have more than 2^32 - 1 transfers, with one for each word.
@@ -44,17 +43,18 @@ IsTargetCommandStatus served Whole (Err error) status = status ≡ error
 
 -- A host was served at these pins. Then `count` bytes of the target's memory were written to its file, whatever ended
 -- the session.
-pub record TargetCommandServes {A : Type 0} (s : Pins PlainMemory A) (base count status : ℕ)
+pub record TargetCommandServes {A : Type 0} (packets : Option ℕ) (s : Pins PlainMemory A) (base count status : ℕ)
     (text left old new file_old file_new : Option (List ℕ)) : Type 0 where
   pub served : Served
   pub after : Pins PlainMemory A
-  pub session : BitbangServes bus_of served text left old new s after
+  pub session : ServesHost bus_of packets served text left old new s after
   pub wrote : Result (Unit {0}) ℕ
   pub written : CommandWritesBack (plain_of (marked_clocked_state bus_of after.target).memory) base count wrote file_old
       file_new
   pub is : IsTargetCommandStatus served (is_pins_trace_cut_off after.trace ≡ false) wrote status
 
-module _ (A : Type 0) (status : ℕ) (text left old new : Option (List ℕ)) (idr : Option ℕ) where
+module _ (A : Type 0) (status : ℕ) (text left old new : Option (List ℕ)) (idr packets : Option ℕ)
+  where
   -- Nothing was written, or a host was served at the target that has these bytes, and the memory written to a file.
   -- Only tests show that it is the memory's.
   abbrev pub ServesBytes : ℕ → List ℕ → List Mark → Type 0
@@ -62,7 +62,7 @@ module _ (A : Type 0) (status : ℕ) (text left old new : Option (List ℕ)) (id
       CommandNotOpened status old new
       ⊎ ((s : Pins PlainMemory A) × (trace : Trace A) × TargetCommandHasBytes base bytes marks idr trace s
       × (file_old : Option (List ℕ))
-      × (file_new : Option (List ℕ)) × TargetCommandServes s base (length bytes) status text left old new file_old
+      × (file_new : Option (List ℕ)) × TargetCommandServes packets s base (length bytes) status text left old new file_old
       file_new)
 
   -- Nothing was written, or the memory's file has these bytes, and the target has the marks of the plan. Without a plan
@@ -77,6 +77,6 @@ module _ (A : Type 0) (status : ℕ) (text left old new : Option (List ℕ)) (id
   -- what the arguments ask for. No contract knows the contents of the files.
   abbrev pub CommandServesTarget : ServedMemory → Type 0
   CommandServesTarget (Script texts) =
-      (script : Option (List ℕ)) × (plan : Option (List ℕ)) × TargetCommandServesHost A status script plan idr text left
+      (script : Option (List ℕ)) × (plan : Option (List ℕ)) × TargetCommandServesHost A status script plan idr packets text left
       old new
   CommandServesTarget (File memory) = (ram : Option (List ℕ)) × ServesMemory memory ram

@@ -1,11 +1,14 @@
--- What `swd target` does on the standard streams.
-use Rattle.std.specs.Prelude.{ℕ, ◌≡◌, ◌⊎◌, false, List, Option}
+-- What `swd target` and `swd probe` do on the standard streams.
+use Rattle.std.specs.Prelude.{ℕ, ◌≡◌, ◌⊎◌, false, List, Option, Some, None}
+use Rattle.swd_port.specs.Bus.{Bus}
 use Rattle.swd_bitbang.specs.declared.serving.Served.{Served}
 use Rattle.swd_bitbang.specs.declared.serving.Served.TheVariants.{Quit, Ended}
 use Rattle.swd_bitbang.specs.declared.trace.Trace.{Trace}
 use Rattle.swd_bitbang.specs.declared.pins.Pins.{Pins}
 use Rattle.swd_bitbang.specs.Sessions.{BitbangServes}
 use Rattle.swd_bitbang.specs.Traces.{is_pins_trace_cut_off}
+use Rattle.swd_packets.specs.declared.packets.Packets.{Packets}
+use Rattle.swd_packets.specs.Packets.{PacketsServe, IsPacketsAtRest, packets_pins}
 use Rattle.swd_run.specs.declared.script_device.ScriptDevice.{ScriptDevice}
 use Rattle.swd_run.specs.ScriptDevices.{script_device_bus}
 use Rattle.swd_ends.specs.Serving.{SimulatesTargetEnd}
@@ -17,14 +20,22 @@ IsServedCommandStatus Quit Whole status = ((status ≡ 0) × Whole) ⊎ (status 
 IsServedCommandStatus Ended Whole status = ((status ≡ 0) × Whole) ⊎ (status ≡ 2)
 IsServedCommandStatus served Whole status = status ≡ 2
 
+-- A host was served at these pins, by the characters of remote_bitbang, or by packets of this size.
+abbrev pub ServesHost : {D A : Type 0} → (D → Bus) → Option ℕ → Served → Option (List ℕ) → Option (List ℕ)
+    → Option (List ℕ) → Option (List ℕ) → Pins D A → Pins D A → Type 0
+ServesHost bus None served text left old new s t = BitbangServes bus served text left old new s t
+ServesHost {D} {A} bus (Some size) served text left old new s t = (before : Packets D A) × (after : Packets D A)
+    × IsPacketsAtRest s size before × PacketsServe bus served text left old new before after
+    × (t ≡ packets_pins after)
+
 -- Nothing was written, or a host was served at the pins of the target of the script, under the plan, with this IDR or
 -- none.
-abbrev pub TargetCommandServesHost : (A : Type 0) → ℕ → Option (List ℕ) → Option (List ℕ) → Option ℕ → Option (List ℕ)
-    → Option (List ℕ) → Option (List ℕ) → Option (List ℕ) → Type 0
-TargetCommandServesHost A status script plan idr text left old new =
+abbrev pub TargetCommandServesHost : (A : Type 0) → ℕ → Option (List ℕ) → Option (List ℕ) → Option ℕ → Option ℕ
+    → Option (List ℕ) → Option (List ℕ) → Option (List ℕ) → Option (List ℕ) → Type 0
+TargetCommandServesHost A status script plan idr packets text left old new =
     CommandNotOpened status old new
     ⊎ ((served : Served) × (trace : Trace A) × (s : Pins (ScriptDevice A) A) × (t : Pins (ScriptDevice A) A)
     × SimulatesTargetEnd
     script plan idr trace s
-    × BitbangServes script_device_bus served text left old new s t
+    × ServesHost script_device_bus packets served text left old new s t
     × IsServedCommandStatus served (is_pins_trace_cut_off t.trace ≡ false) status)

@@ -1,7 +1,9 @@
-//! Carries out `swd run`, at a simulated target or at one behind the standard streams, `swd info` and `swd target`.
+//! Carries out `swd run`, at a simulated target or at one behind the standard streams, `swd info`, `swd target`
+//! and `swd probe`.
 #![tactic(auto)]
 
 mod core_command;
+mod host;
 mod info_command;
 mod memory_target;
 mod records;

@@ -4,6 +4,7 @@ ghost use Rattle.swd_target.specs.Marks.{IsLegalPlan};
 ghost use Rattle.swd_run_commands.specs.MemoryTargets.{ServesBytes, ServesMemory, TargetCommandServes};
 ghost use Rattle.swd_run_commands.specs.MemoryTargets.{target_command_room};
 
+use crate::host::serve_host;
 use crate::session::{
     SessionFiles, are_complete, cut_off_session, open_session, served_status, served_streams,
 };
@@ -15,7 +16,7 @@ use swd_console::{
     Console, Files, HeldMemory, InUse, KeepsError, MemoryFile, StreamsInUse, Watched, WriteRole,
     cannot_use, read_target_files, tell_used_up, write_back,
 };
-use swd_ends::{serve_logged, target_pins};
+use swd_ends::target_pins;
 use swd_image_ends::memory_with;
 use swd_target::Memory;
 
@@ -36,7 +37,7 @@ pub(crate) fn perform_memory_target<
     console: &mut Console<'_, A, F, C, E>,
 ) -> u8
     ensures { (ram : Option (List ℕ)) × ServesMemory A result (I.remaining input.old) (I.remaining input.new)
-        (O.contents output.old) (O.contents output.new) target.now.idr memory.now ram }
+        (O.contents output.old) (O.contents output.new) target.now.idr target.now.packets memory.now ram }
 {
     let mut in_use = InUse::new(StreamsInUse::Both);
     match read_target_files(memory, &mut in_use, console) {
@@ -72,7 +73,7 @@ fn serve_held<
 ) -> u8
     requires { IsLegalPlan held.marks.items }
     ensures { ServesBytes A result (I.remaining input.old) (I.remaining input.new) (O.contents output.old)
-        (O.contents output.new) target.now.idr held.entry.memory.now.base held.entry.bytes.items
+        (O.contents output.new) target.now.idr target.now.packets held.entry.memory.now.base held.entry.bytes.items
         held.entry.marks.items }
 {
     let HeldMemory {
@@ -133,7 +134,7 @@ fn serve_session<
     console: &mut Console<'_, A, F, C, E>,
 ) -> u8
     requires { session.back.memory.now.base + session.back.count ≤ 2 ^ 32 }
-    ensures { (new : Option (List ℕ)) × TargetCommandServes session.entry.pins session.entry.back.memory.now.base
+    ensures { (new : Option (List ℕ)) × TargetCommandServes target.now.packets session.entry.pins session.entry.back.memory.now.base
         session.entry.back.count
         result (I.remaining input.old) (I.remaining input.new) (O.contents output.old) (O.contents output.new)
         (F.Made.Write.contents session.entry.back.file) new }
@@ -145,7 +146,7 @@ fn serve_session<
     } = session;
     let SessionFiles { log, trace } = files;
     let before = pins.target().memory().log().len();
-    let (served, pins, live) = serve_logged(input, output, pins, log, trace);
+    let (served, pins, live) = serve_host(target.packets, input, output, pins, log, trace);
     let done = are_complete(&live, pins.trace());
     let (log, trace) = live.into_writers();
     let files = SessionFiles { log, trace };
@@ -154,7 +155,7 @@ fn serve_session<
     match write_back(after, &mut back, console) {
         Ok(()) => {
             let streams = served_streams(target, input, output, &files);
-            served_status(console.errors, served, done, streams.as_slice())
+            served_status(console.errors, target, served, done, streams.as_slice())
         }
         Err(status) => status,
     }

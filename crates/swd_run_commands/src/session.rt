@@ -106,6 +106,7 @@ pub(crate) fn are_complete<M, A: Allocator>(files: &LiveFiles<M>, kept: &Trace<A
 /// the trace isn't truncated.
 pub(crate) fn served_status<E: Write>(
     errors: &mut E,
+    target: &TargetLine,
     served: Served,
     done: bool,
     streams: &[Stream<'_>],
@@ -120,10 +121,22 @@ pub(crate) fn served_status<E: Write>(
                 tell_failure_or(errors, streams, "trace cut")
             }
         }
+        Served::Bad { place, byte: _ } if target.packets.is_some() => long_status(errors, place),
         Served::Bad { place, byte } => bad_status(errors, place, byte),
         Served::Read => tell_failure_or(errors, streams, "read failed"),
         Served::Write { written: _ } => tell_failure_or(errors, streams, "write failed"),
     }
+}
+
+// Prints that a packet is too long, and returns the status 2.
+fn long_status<E: Write>(errors: &mut E, place: u64) -> u8
+    ensures { result ≡ 2 }
+{
+    let _ = writeln!(
+        errors,
+        "swd: byte {place}: a packet of more than 512 bytes: are lengths before packets?"
+    );
+    FAULT
 }
 
 // Prints that a byte isn't of the protocol, and returns the status 2.

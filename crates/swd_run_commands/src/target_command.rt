@@ -1,8 +1,9 @@
-//! Performs `swd target`: a simulated target on the standard streams.
+//! Performs `swd target` and `swd probe`: a simulated target on the standard streams.
 ghost use Rattle.std.specs.Prelude.{◌≡◌, ℕ, List, Option};
 ghost use Rattle.swd_run_commands.specs.MemoryTargets.{CommandServesTarget};
 ghost use Rattle.swd_run_commands.specs.Targets.{TargetCommandServesHost};
 
+use crate::host::serve_host;
 use crate::memory_target::perform_memory_target;
 use crate::session::{
     SessionFiles, are_complete, cut_off_session, give_up_session, open_session, served_status,
@@ -16,7 +17,7 @@ use swd_console::{
     Console, Files, InUse, KeepsError, ReadRole, StreamsInUse, TrackedReader, Watched, cannot_use,
     tell,
 };
-use swd_ends::{TargetFault, read_target, serve_logged};
+use swd_ends::{TargetFault, read_target};
 
 // What is wrong with a script that has more than the device of a target.
 const ACCESSES: &str = "a target's script has the lines memory, room and core alone";
@@ -31,7 +32,7 @@ pub fn perform_target<
     E: Write,
 >(target: &TargetLine, input: &mut I, output: &mut O, console: &mut Console<'_, A, F, C, E>) -> u8
     ensures { CommandServesTarget A result (I.remaining input.old) (I.remaining input.new) (O.contents output.old)
-        (O.contents output.new) target.now.idr target.now.memory }
+        (O.contents output.new) target.now.idr target.now.packets target.now.memory }
 {
     match &target.memory {
         ServedMemory::Script(texts) => perform_script_target(target, texts, input, output, console),
@@ -62,7 +63,7 @@ fn perform_script_target<
     console: &mut Console<'_, A, F, C, E>,
 ) -> u8
     ensures { (script : Option (List ℕ)) × (plan : Option (List ℕ)) × TargetCommandServesHost A result script plan
-        target.now.idr (I.remaining input.old) (I.remaining input.new) (O.contents output.old) (O.contents output.new) }
+        target.now.idr target.now.packets (I.remaining input.old) (I.remaining input.new) (O.contents output.old) (O.contents output.new) }
 {
     let name = texts.script.as_str();
     let mut in_use = InUse::new(StreamsInUse::Both);
@@ -106,7 +107,7 @@ fn serve_under<
     console: &mut Console<'_, A, F, C, E>,
 ) -> u8
     ensures { TargetCommandServesHost A result (S.remaining texts.entry.script.reader)
-        (P.remaining texts.entry.plan.reader) target.now.idr
+        (P.remaining texts.entry.plan.reader) target.now.idr target.now.packets
         (I.remaining input.old) (I.remaining input.new) (O.contents output.old) (O.contents output.new) }
 {
     let TargetTexts {
@@ -125,12 +126,13 @@ fn serve_under<
                 return status;
             }
             let SessionFiles { log, trace } = files;
-            let (served, pins, files) = serve_logged(input, output, pins, log, trace);
+            let (served, pins, files) =
+                serve_host(target.packets, input, output, pins, log, trace);
             let done = are_complete(&files, pins.trace());
             let (log, trace) = files.into_writers();
             let files = SessionFiles { log, trace };
             let streams = served_streams(target, input, output, &files);
-            served_status(console.errors, served, done, streams.as_slice())
+            served_status(console.errors, target, served, done, streams.as_slice())
         }
         Err(fault) => {
             give_up_session(target, files, console);

@@ -100,6 +100,10 @@ abbrev pub target_rules : List Rule
 target_rules = place_rule (codes "SCRIPT") false ∷ value_rule (codes "memory") ∷ value_rule (codes "base")
     ∷ value_rule (codes "plan") ∷ value_rule (codes "log") ∷ value_rule (codes "trace") ∷ value_rule (codes "idr") ∷ []
 
+-- the same, and the most bytes of a packet
+abbrev pub probe_rules : List Rule
+probe_rules = target_rules ++ value_rule (codes "size") ∷ []
+
 abbrev pub core_rules : List Rule
 core_rules = place_rule (codes "ACTION") true ∷ places_rule (codes "NAME") ∷ flag_rule (codes "halt")
     ∷ flag_rule (codes "script") ∷ tries_rule ∷ resume_rule ∷ value_rule (codes "trace") ∷ lead_rules
@@ -134,8 +138,8 @@ bare_args_app =
 abbrev pub swd_app : App
 swd_app = commands_app bare_args_app ((codes "one", file_rules) ∷ (codes "decode", decode_rules)
     ∷ (codes "encode", file_rules) ∷ (codes "run", run_rules) ∷ (codes "target", target_rules)
-    ∷ (codes "draw", draw_rules) ∷ (codes "check", check_rules) ∷ (codes "info", lead_rules ++ tries_rule ∷ [])
-    ∷ (codes "core", core_rules) ∷ (codes "conform", conform_rules) ∷ (codes "load", load_rules)
+    ∷ (codes "probe", probe_rules) ∷ (codes "draw", draw_rules) ∷ (codes "check", check_rules)
+    ∷ (codes "info", lead_rules ++ tries_rule ∷ []) ∷ (codes "core", core_rules) ∷ (codes "conform", conform_rules) ∷ (codes "load", load_rules)
     ∷ (codes "verify", read_rules) ∷ (codes "dump", dump_rules) ∷ (codes "probes", []) ∷ [])
 
 -- --remote alone is read as --remote=-, so that the argument after it isn't its value
@@ -331,6 +335,24 @@ pub record AreTargetArguments (target : TargetLine) (rows : List Row) : Type 0 w
   pub trace : option_map string_bytes target.trace ≡ first_of (codes "trace") rows
   pub idr : IsIdrArgument target.idr (first_of (codes "idr") rows)
 
+-- the most bytes of a packet: 64 to 512, and 64 without the option
+abbrev pub IsSizeArgument : ℕ → Option Text → Type 0
+IsSizeArgument size None = size ≡ 64
+IsSizeArgument size (Some text) = (Some size ≡ script_decimal_number text) × (64 ≤ size) × (size ≤ 512)
+
+-- a target that is served by packets of this size, and what the other arguments name
+pub record AreProbeArguments (target : TargetLine) (rows : List Row) : Type 0 where
+  pub target : AreTargetArguments target rows
+  pub size : ℕ
+  pub packets : target.packets ≡ Some size
+  pub sized : IsSizeArgument size (first_of (codes "size") rows)
+
+-- a target that is served by characters, or one by packets
+abbrev pub IsServedLine : TargetLine → Text → List Row → Type 0
+IsServedLine target name rows =
+    ((name ≡ codes "target") × AreTargetArguments target rows × (target.packets ≡ None))
+    ⊎ ((name ≡ codes "probe") × AreProbeArguments target rows)
+
 -- the word that names what is done at a core
 abbrev pub core_action_word : CoreAction → Text
 core_action_word Id = codes "id"
@@ -409,7 +431,7 @@ IsLineOfArguments (Draw draw) rows = IsSomeAnd rows (λ p. (p.0 ≡ codes "draw"
 IsLineOfArguments (Check check) rows = IsSomeAnd rows (λ p. (p.0 ≡ codes "check") × AreCheckArguments check p.1)
 IsLineOfArguments (Encode file) rows = HasFileArgument (codes "encode") (option_map string_bytes file) rows
 IsLineOfArguments (Run run) rows = IsSomeAnd rows (λ p. (p.0 ≡ codes "run") × AreRunArguments run p.1)
-IsLineOfArguments (Target target) rows = IsSomeAnd rows (λ p. (p.0 ≡ codes "target") × AreTargetArguments target p.1)
+IsLineOfArguments (Target target) rows = IsSomeAnd rows (λ p. IsServedLine target p.0 p.1)
 IsLineOfArguments (Info info) rows = IsSomeAnd rows (λ p. (p.0 ≡ codes "info") × AreInfoArguments info p.1)
 IsLineOfArguments (Core core) rows = IsSomeAnd rows (λ p. (p.0 ≡ codes "core") × AreCoreArguments core p.1)
 IsLineOfArguments (Conform conform) rows =

@@ -1,8 +1,9 @@
-//! The arguments of `swd target`.
-ghost use Rattle.std.specs.Prelude.{IfOk, IfSome};
+//! The arguments of `swd target` and `swd probe`.
+ghost use Rattle.std.specs.Prelude.{◌≡◌, IfOk, IfSome, None};
 ghost use Rattle.std.specs.Option.{option_map};
 ghost use Rattle.clap.specs.Words.{found_of, rows_of};
 ghost use Rattle.swd_words.specs.Commands.{AreServedArguments, AreTargetArguments, IsIdrArgument};
+ghost use Rattle.swd_words.specs.Commands.{AreProbeArguments, IsSizeArgument};
 
 use crate::argument::{Argument, CommandRow, Form};
 use crate::fault::LineFault;
@@ -12,7 +13,7 @@ use clap::ArgMatches;
 use clap::error::ErrorKind;
 use std::alloc::Global;
 use swd_command_line::{ScriptLine, ServedMemory, TargetLine};
-use swd_script::hex_of;
+use swd_script::{decimal_of, hex_of};
 
 const TARGET_AFTER: &str = "\
 The debugger speaks OpenOCD's remote_bitbang protocol for SWD: d to g set the
@@ -45,6 +46,27 @@ session.
 Status: 0 if the session ended by Q or by the end of the input, and each level
 that the debugger asked for was written, 2 at an error.";
 
+const PROBE_AFTER: &str = "\
+Simulates a debug probe that speaks CMSIS-DAP, before the target of swd target:
+SCRIPT, --memory, the plan, the log, the trace and --idr are the same. The host
+is one of CMSIS-DAP, such as swd run --probe, pyOCD and OpenOCD.
+
+Each packet has its length before it, in two bytes, the first least significant,
+and so has its reply, as with --framed of swd run. Over two fifos:
+  mkfifo there back
+  swd probe memory.script <there >back &
+  swd info --probe=back,there --framed
+
+A packet is at most N bytes long, 64 to 512. One that is malformed, or whose
+reply might be longer, is answered with its command and ff, and makes no clock.
+
+Status: 0 if the session ended by the end of the input, and each packet was
+answered, 2 at an error.";
+
+const SIZE_OPTION: &str = "--size <N>";
+
+const SIZE_RANGE: &str = "it is not in 64..=512";
+
 const NO_MEMORY: &str = "the memory is missing: give SCRIPT or --memory FILE";
 
 const TWO_MEMORIES: &str = "SCRIPT and --memory FILE are two memories: give one of them";
@@ -53,36 +75,55 @@ const NO_BASE: &str = "--base ADDR goes with --memory FILE";
 
 const IDR_FORM: &str = "it is not 1 to 8 hexadecimal digits";
 
+// The script of the target.
+const SCRIPT: Argument = Argument {
+    name: "SCRIPT",
+    form: Form::Place(false),
+    help: "The script with the memory's size",
+};
+
+// The file of the memory.
+const MEMORY: Argument = Argument {
+    name: "memory",
+    form: Form::Value("FILE"),
+    help: "In place of SCRIPT: FILE has the memory (overwrites it)",
+};
+
+// The file of the log.
+const LOG: Argument = Argument {
+    name: "log",
+    form: Form::Value("FILE"),
+    help: "Write the log to FILE (overwrites it)",
+};
+
+// The IDR of the access port.
+const IDR: Argument = Argument {
+    name: "idr",
+    form: Form::Value("WORD"),
+    help: "IDR of the access port, hexadecimal; else 0",
+};
+
+// The most bytes of a packet.
+const SIZE: Argument = Argument {
+    name: "size",
+    form: Form::Value("N"),
+    help: "The most bytes of a packet, 64 to 512; else 64",
+};
+
 /// The command `target`.
 pub(crate) const TARGET: CommandRow = CommandRow {
     name: "target",
     about: "Simulate a target for a debugger on the standard streams",
     after: Some(TARGET_AFTER),
-    arguments: &[
-        Argument {
-            name: "SCRIPT",
-            form: Form::Place(false),
-            help: "The script with the memory's size",
-        },
-        Argument {
-            name: "memory",
-            form: Form::Value("FILE"),
-            help: "In place of SCRIPT: FILE has the memory (overwrites it)",
-        },
-        BASE,
-        PLAN,
-        Argument {
-            name: "log",
-            form: Form::Value("FILE"),
-            help: "Write the log to FILE (overwrites it)",
-        },
-        TRACE,
-        Argument {
-            name: "idr",
-            form: Form::Value("WORD"),
-            help: "IDR of the access port, hexadecimal; else 0",
-        },
-    ],
+    arguments: &[SCRIPT, MEMORY, BASE, PLAN, LOG, TRACE, IDR],
+};
+
+/// The command `probe`.
+pub(crate) const SIMULATED_PROBE: CommandRow = CommandRow {
+    name: "probe",
+    about: "Simulate a CMSIS-DAP probe and its target on the standard streams",
+    after: Some(PROBE_AFTER),
+    arguments: &[SCRIPT, MEMORY, BASE, PLAN, LOG, TRACE, IDR, SIZE],
 };
 
 // Returns the memory that the arguments name.
@@ -120,7 +161,8 @@ pub(crate) fn idr_in(word: Option<&str>) -> Option<Option<u32>>
 
 /// Returns the arguments of `swd target`.
 pub(crate) fn target_line(alloc: Global, matches: &ArgMatches<'_>) -> Result<TargetLine, LineFault>
-    ensures { IfOk result (λ target. AreTargetArguments target (rows_of (found_of matches.now))) }
+    ensures arguments { IfOk result (λ target. AreTargetArguments target (rows_of (found_of matches.now))) }
+    ensures characters { IfOk result (λ target. target.packets ≡ None) }
 {
     let memory = served_memory(alloc, matches)?;
     let given = matches.get_str("idr");
@@ -135,5 +177,35 @@ pub(crate) fn target_line(alloc: Global, matches: &ArgMatches<'_>) -> Result<Tar
         log,
         trace,
         idr,
+        packets: None,
+    })
+}
+
+// Returns the most bytes of a packet, 64 without an argument. Returns `None` if it isn't one of 64 to 512.
+fn size_in(word: Option<&str>) -> Option<u32>
+    ensures { IfSome result (λ size. IsSizeArgument size (option_map (λ s. s.now) word.entry)) }
+{
+    match word {
+        Some(word) => match decimal_of(word.as_bytes()) {
+            Some(size) if 64 <= size && size <= 512 => Some(size),
+            _ => None,
+        },
+        None => Some(64),
+    }
+}
+
+/// Returns the arguments of `swd probe`.
+pub(crate) fn probe_line(alloc: Global, matches: &ArgMatches<'_>) -> Result<TargetLine, LineFault>
+    ensures { IfOk result (λ target. AreProbeArguments target (rows_of (found_of matches.now))) }
+{
+    let given = matches.get_str("size");
+    let Some(size) = size_in(given) else {
+        let kind = ErrorKind::InvalidValue;
+        return Err(invalid(alloc, kind, given, SIZE_OPTION, SIZE_RANGE));
+    };
+    let target = target_line(alloc, matches)?;
+    Ok(TargetLine {
+        packets: Some(size),
+        ..target
     })
 }

@@ -21,7 +21,7 @@ use crate::fault::LineFault;
 use crate::image_words::{DUMP, LOAD, VERIFY, image_line};
 use crate::info_words::{INFO, info_line};
 use crate::lead_words::{FRAMED, PROBE, REMOTE, SPEED, is_local, lead_in};
-use crate::target_words::{TARGET, target_line};
+use crate::target_words::{SIMULATED_PROBE, TARGET, probe_line, target_line};
 use clap::error::ErrorKind;
 use clap::{ArgMatches, Command, Error};
 use std::alloc::{AllocError, Global};
@@ -355,8 +355,22 @@ const PROBES: CommandRow = CommandRow {
 };
 
 // The commands, in the order of the help.
-const COMMANDS: [CommandRow; 14] = [
-    ONE, DECODE, ENCODE, RUN, TARGET, DRAW, CHECK, INFO, CORE, CONFORM, LOAD, VERIFY, DUMP, PROBES,
+const COMMANDS: [CommandRow; 15] = [
+    ONE,
+    DECODE,
+    ENCODE,
+    RUN,
+    TARGET,
+    SIMULATED_PROBE,
+    DRAW,
+    CHECK,
+    INFO,
+    CORE,
+    CONFORM,
+    LOAD,
+    VERIFY,
+    DUMP,
+    PROBES,
 ];
 
 // Returns the program without its commands. One of them is required.
@@ -635,6 +649,10 @@ fn line_of(alloc: Global, matches: &ArgMatches<'_>) -> Result<CommandLine, LineF
             Err(fault) => Err(fault),
         },
         "target" => match target_line(alloc, rest) {
+            Ok(target) => Ok(CommandLine::Target(target)),
+            Err(fault) => Err(fault),
+        },
+        "probe" => match probe_line(alloc, rest) {
             Ok(target) => Ok(CommandLine::Target(target)),
             Err(fault) => Err(fault),
         },

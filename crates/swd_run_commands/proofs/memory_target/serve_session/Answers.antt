@@ -10,14 +10,14 @@ use Rattle.swd_run_commands.proofs.memory_target.serve_session.Goals as goal
 
 pub returns-in-Ok : goal.returns-in-Ok
 returns-in-Ok g c =
-    let served = c.serve_logged-served in
+    let served = c.serve_host-served in
     let wrote = c.write_back.result in
     let back = c.args.session.back in (
       g.F.Made.Write.contents c.write_back.new.to.file,
       record {
         served = served.result.0;
         after = served.result.1;
-        session = served.ensures.session;
+        session = served.ensures;
         wrote = wrote;
         written = subst (λ (m : PlainMemory). CommandWritesBack m back.memory.now.base back.count wrote
             (g.F.Made.Write.contents back.file) (g.F.Made.Write.contents c.write_back.new.to.file))
@@ -34,14 +34,14 @@ returns-in-Ok g c =
 
 pub returns : goal.returns
 returns g c =
-    let served = c.serve_logged-served in
+    let served = c.serve_host-served in
     let wrote = c.write_back.result in
     let back = c.args.session.back in (
       g.F.Made.Write.contents c.write_back.new.to.file,
       record {
         served = served.result.0;
         after = served.result.1;
-        session = served.ensures.session;
+        session = served.ensures;
         wrote = wrote;
         written = subst (λ (m : PlainMemory). CommandWritesBack m back.memory.now.base back.count wrote
             (g.F.Made.Write.contents back.file) (g.F.Made.Write.contents c.write_back.new.to.file))

@@ -7,13 +7,13 @@ use Rattle.swd_run_commands.proofs.target_command.serve_under.Goals as goal
 pub returns-in-Ok-read_target : goal.returns-in-Ok-read_target
 returns-in-Ok-read_target g c =
     inr (
-      c.serve_logged-served.result.0,
+      c.serve_host-served.result.0,
       c.empty_trace-kept.result,
       c.in-Ok-read_target.pins,
-      c.serve_logged-served.result.1,
+      c.serve_host-served.result.1,
       c.in-Ok-read_target.ensures.made,
-      c.serve_logged-served.ensures.session,
-      target_command_status_map c.serve_logged-served.result.0 _ _ _
+      c.serve_host-served.ensures,
+      target_command_status_map c.serve_host-served.result.0 _ _ _
           (λ done. ap is_pins_trace_cut_off (sym c.trace.ensures) ∙ c.are_complete-done.ensures done)
           c.served_status.ensures,
     )

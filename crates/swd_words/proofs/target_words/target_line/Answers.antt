@@ -4,8 +4,8 @@ use Rattle.clap.proofs.WalkLemmas.{first_value-rows}
 use Rattle.swd_words.specs.Commands.{IsIdrArgument}
 use Rattle.swd_words.proofs.target_words.target_line.Goals as goal
 
-pub returns : goal.returns
-returns c = record {
+pub returns-clause-arguments : goal.returns-clause-arguments
+returns-clause-arguments c = record {
   memory = c.in_ok-memory.ensures;
   log = c.in_ok-log.ensures;
   trace = c.in_ok-trace.ensures;
