@@ -109,8 +109,8 @@ module _ {L : Type 0} (clock : SequenceClock L) (resets : Bool → L → L → T
       s.line t.line h.makes
   does_move Delay bytes told s t h = stays_at s.line t.line (ap processor_line h.after)
   does_move ResetTarget bytes told s t h = stays_at s.line t.line (ap processor_line h.after)
-  does_move Pins bytes told s t h = reset_moves (nat_le 128 (slice_index bytes 2)) (nat_le 128 (slice_index bytes 1)) s t
-      h.sets
+  does_move Pins bytes told s t h =
+      reset_moves (nat_le 128 (slice_index bytes 2)) (nat_le 128 (slice_index bytes 1)) s t h.sets
   does_move Clock bytes told s t h = stays_at s.line t.line (ap processor_line h.after)
   does_move DriveSequence bytes told s t h = clocks_move
       (map Some (dap_bits (drop 2 bytes) 0 (dap_drive_clocks (slice_index bytes 1)))) h.levels s.line t.line h.clocks
@@ -124,7 +124,8 @@ module _ {L : Type 0} (clock : SequenceClock L) (resets : Bool → L → L → T
       → R s.line t.line
   commands_move zero bytes told s t h = stays_at s.line t.line (ap processor_line h.1)
   commands_move (suc n) bytes told s t (m, first, rest, one, next, e) = motion.goes_on s.line m.line t.line
-      (does_move (dap_command_of (slice_index bytes 0)) bytes first s m one) (commands_move n (drop (dap_command_shape bytes).request bytes) rest m t next)
+      (does_move (dap_command_of (slice_index bytes 0)) bytes first s m one)
+      (commands_move n (drop (dap_command_shape bytes).request bytes) rest m t next)
 
   packet_moves : (c : Command) (bytes told : List ℕ) (s t : Processor L)
       → DapPacketGoes clock resets c bytes told s t → R s.line t.line
