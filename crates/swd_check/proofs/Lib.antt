@@ -1,4 +1,3 @@
 pub mod WatchLemmas
 pub mod JunkLemmas
 pub mod SaidLemmas
-

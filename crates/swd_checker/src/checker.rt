@@ -267,7 +267,7 @@ impl Checker {
         ensures watches { self.old.stray ≡ 0 → (b : Bool) → CheckerWatches (Item.Junk b) self.old self.new }
         ensures knows { self.old.stray ≡ 0 → (b : Bool)
             → CheckerKnows (opening_after_item (Item.Junk b) (checker_gap self.old) self.old.opening) self.old
-                self.new }
+            self.new }
         ensures crowded { self.new.crowded ≡ self.old.crowded }
         ensures began { self.new.began ≡ self.old.began }
         ensures known { self.new.identification ≡ self.old.identification }

@@ -3,7 +3,8 @@ ghost use Rattle.std.specs.Prelude.{◌≡◌, ◌≤◌, ◌+◌, [], length, s
 ghost use Rattle.swd_dap_probe.specs.Shapes.{dap_shape_by, dap_fixed_shape, dap_command_shape, dap_packet_shape};
 ghost use Rattle.swd_dap_probe.specs.Shapes.{dap_packet_shape_by, dap_long, dap_most};
 ghost use Rattle.swd_dap_probe.specs.Packets.{DapAppends, ProbeDoes, DapCommandGoes, DapCommandsGo, DapPacketGoes};
-ghost use Rattle.swd_dap_probe.specs.Packets.{DapTransacts, DapAborts, DapDrives, DapSequencesMade, DapSetsPins, DapSets};
+ghost use Rattle.swd_dap_probe.specs.Packets.{DapTransacts, DapAborts, DapDrives, DapSequencesMade, DapSetsPins};
+ghost use Rattle.swd_dap_probe.specs.Packets.{DapSets};
 ghost use Rattle.swd_dap_probe.specs.Plain.{dap_info_reply, dap_settings_after};
 ghost use Rattle.swd_dap_probe.specs.Commands.{dap_command_of};
 ghost use Rattle.swd_dap_probe.specs.declared.command.Command.{Command};

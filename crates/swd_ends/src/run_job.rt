@@ -37,8 +37,7 @@ pub struct RunJob<'a, O, T, I, A: Allocator, G> {
 }
 
 impl<'a, O: Write, T: Write + Drop, I: ItemsPrinter, A: Allocator + Copy, G: Progress> LineJob
-    for RunJob<'a, O, T, I, A, G>
-{
+    for RunJob<'a, O, T, I, A, G> {
     type Answer = Result<Finished, EngineFault>;
 
     ghost came = { λ story old new answer calls. BatchAnswersAt (run_story_wire story) old.limits
@@ -51,6 +50,13 @@ impl<'a, O: Write, T: Write + Drop, I: ItemsPrinter, A: Allocator + Copy, G: Pro
     ) -> (Result<Finished, EngineFault>, TransportWire<K, P, Tied>) {
         let batches = self.script.batches.as_slice();
         let (alloc, limits) = (self.alloc, self.limits);
-        run_batches(alloc, wire, batches, limits, &mut self.report, &mut self.records)
+        run_batches(
+            alloc,
+            wire,
+            batches,
+            limits,
+            &mut self.report,
+            &mut self.records,
+        )
     }
 }

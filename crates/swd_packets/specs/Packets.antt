@@ -1,7 +1,7 @@
 -- Packets of a CMSIS-DAP host, each with its length before it, as a probe takes them that moves the pins of a target.
 -- That a length stands before a packet is this project's choice.
 use Rattle.std.specs.Prelude.{ℕ, ◌≡◌, ◌+◌, ◌-◌, ◌*◌, ◌^◌, ◌<◌, ◌≤◌, min, max, Bool, List, [], ◌∷◌, ◌++◌, length, drop}
-use Rattle.std.specs.Prelude.{Option, ◌⊎◌}
+use Rattle.std.specs.Prelude.{Option}
 use Rattle.std.specs.Int.{w16, to_le_bytes}
 use Rattle.swd_port.specs.Bus.{Bus}
 use Rattle.swd_bitbang.specs.declared.pins.Pins.{Pins}
@@ -77,4 +77,5 @@ pub record IsPacketsAtRest {D A : Type 0} (pins : Pins D A) (size : ℕ) (packet
 -- what a session says of the reader's input, of the writer, and of the probe
 abbrev pub PacketsServe : {D A : Type 0} → (D → Bus) → Served → Option (List ℕ) → Option (List ℕ) → Option (List ℕ)
     → Option (List ℕ) → Packets D A → Packets D A → Type 0
-PacketsServe bus served text left old new s t = ProtocolServes (PacketsStep bus) IsPacketsEnd served text left old new s t
+PacketsServe bus served text left old new s t =
+    ProtocolServes (PacketsStep bus) IsPacketsEnd served text left old new s t

@@ -1,6 +1,6 @@
--- Laws of packets at the pins of a target: they lead to pins that characters reach too, so that a server of any protocol
--- can serve them.
-use Rattle.std.proofs.Common.{◌≡◌, ℕ, ◌+◌, ◌*◌, ◌++◌, List, [], ◌∷◌, refl, sym, ap, subst, append-nil}
+-- Laws of packets at the pins of a target: they lead to pins that characters reach too, so that a server of any
+-- protocol can serve them.
+use Rattle.std.proofs.Common.{ℕ, List, sym, subst}
 use Rattle.swd_port.specs.Bus.{Bus}
 use Rattle.swd_bitbang.specs.Watching.{PinsReach}
 use Rattle.swd_bitbang.proofs.SessionLemmas.{pins_reach_further, pins_reach_themselves}
@@ -10,7 +10,6 @@ use Rattle.swd_dap_probe.proofs.MotionLemmas.{takes_move}
 use Rattle.swd_packets.specs.declared.line.PinsLine.{PinsLine}
 use Rattle.swd_packets.specs.declared.packets.Packets.{Packets}
 use Rattle.swd_packets.specs.Packets.{PacketsStep, keeps, completes, PinsLineClock, PinsLineResets, packets_pins}
-use Rattle.swd_packets.specs.Packets.{packet_frame}
 
 -- the pins of a line are reached, however it is moved
 motion : {D A : Type 0} (bus : D → Bus)

@@ -55,28 +55,28 @@ pub record TargetCommandServes {A : Type 0} (packets : Option ℕ) (s : Pins Pla
 
 module _ (A : Type 0) (status : ℕ) (text left old new : Option (List ℕ)) (idr packets : Option ℕ)
   where
-  -- Nothing was written, or a host was served at the target that has these bytes, and the memory written to a file.
-  -- Only tests show that it is the memory's.
-  abbrev pub ServesBytes : ℕ → List ℕ → List Mark → Type 0
-  ServesBytes base bytes marks =
-      CommandNotOpened status old new
-      ⊎ ((s : Pins PlainMemory A) × (trace : Trace A) × TargetCommandHasBytes base bytes marks idr trace s
-      × (file_old : Option (List ℕ))
-      × (file_new : Option (List ℕ)) × TargetCommandServes packets s base (length bytes) status text left old new file_old
-      file_new)
+    -- Nothing was written, or a host was served at the target that has these bytes, and the memory written to a file.
+    -- Only tests show that it is the memory's.
+    abbrev pub ServesBytes : ℕ → List ℕ → List Mark → Type 0
+    ServesBytes base bytes marks =
+        CommandNotOpened status old new
+        ⊎ ((s : Pins PlainMemory A) × (trace : Trace A) × TargetCommandHasBytes base bytes marks idr trace s
+        × (file_old : Option (List ℕ))
+        × (file_new : Option (List ℕ))
+        × TargetCommandServes packets s base (length bytes) status text left old new file_old file_new)
 
-  -- Nothing was written, or the memory's file has these bytes, and the target has the marks of the plan. Without a plan
-  -- it has none; no contract knows the contents of the plan's file.
-  abbrev pub ServesMemory : MemoryLine → Option (List ℕ) → Type 0
-  ServesMemory memory ram =
-      CommandNotOpened status old new
-      ⊎ ((bytes : List ℕ) × IsReaderText ram bytes × AreImageEndWholeWords memory.base bytes × (marks : List Mark)
-      × IsLegalPlan marks
-      × (memory.plan ≡ None → marks ≡ []) × ServesBytes memory.base bytes marks)
+    -- Nothing was written, or the memory's file has these bytes, and the target has the marks of the plan. Without a
+    -- plan it has none; no contract knows the contents of the plan's file.
+    abbrev pub ServesMemory : MemoryLine → Option (List ℕ) → Type 0
+    ServesMemory memory ram =
+        CommandNotOpened status old new
+        ⊎ ((bytes : List ℕ) × IsReaderText ram bytes × AreImageEndWholeWords memory.base bytes × (marks : List Mark)
+        × IsLegalPlan marks
+        × (memory.plan ≡ None → marks ≡ []) × ServesBytes memory.base bytes marks)
 
-  -- what the arguments ask for. No contract knows the contents of the files.
-  abbrev pub CommandServesTarget : ServedMemory → Type 0
-  CommandServesTarget (Script texts) =
-      (script : Option (List ℕ)) × (plan : Option (List ℕ)) × TargetCommandServesHost A status script plan idr packets text left
-      old new
-  CommandServesTarget (File memory) = (ram : Option (List ℕ)) × ServesMemory memory ram
+    -- what the arguments ask for. No contract knows the contents of the files.
+    abbrev pub CommandServesTarget : ServedMemory → Type 0
+    CommandServesTarget (Script texts) =
+        (script : Option (List ℕ)) × (plan : Option (List ℕ))
+        × TargetCommandServesHost A status script plan idr packets text left old new
+    CommandServesTarget (File memory) = (ram : Option (List ℕ)) × ServesMemory memory ram

@@ -1,5 +1,4 @@
 //! The protocol by which a host moves the pins of a simulated target.
-ghost use Rattle.swd_ends.specs.LiveFiles.{live_pins_sound, live_log_at, live_trace_at, live_transfers_at};
 ghost use Rattle.swd_run_commands.specs.Targets.{ServesHost};
 
 use std::alloc::Allocator;

@@ -134,8 +134,8 @@ fn serve_session<
     console: &mut Console<'_, A, F, C, E>,
 ) -> u8
     requires { session.back.memory.now.base + session.back.count ≤ 2 ^ 32 }
-    ensures { (new : Option (List ℕ)) × TargetCommandServes target.now.packets session.entry.pins session.entry.back.memory.now.base
-        session.entry.back.count
+    ensures { (new : Option (List ℕ)) × TargetCommandServes target.now.packets session.entry.pins
+        session.entry.back.memory.now.base session.entry.back.count
         result (I.remaining input.old) (I.remaining input.new) (O.contents output.old) (O.contents output.new)
         (F.Made.Write.contents session.entry.back.file) new }
 {

@@ -17,12 +17,12 @@ use std::io::{Read, Write};
 use swd_capture_text::AccessesPrinter;
 use swd_check::Checked;
 use swd_command_line::RunLine;
+use swd_conform::over_checked_line;
 use swd_console::{
     Clock, Console, Destination, ERRORS, FAULT, Files, InUse, KeepsError, Stream, TrackedReader,
     Watched, WriteRole, advice_on, cannot_open, cut_off, gone_status, line_streams,
     name_or_nothing, run_status, session_status, tell, tell_failure, way_of,
 };
-use swd_conform::over_checked_line;
 use swd_ends::RunJob;
 use swd_host::End;
 use swd_port::Story;

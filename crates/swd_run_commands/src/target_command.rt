@@ -63,7 +63,8 @@ fn perform_script_target<
     console: &mut Console<'_, A, F, C, E>,
 ) -> u8
     ensures { (script : Option (List ℕ)) × (plan : Option (List ℕ)) × TargetCommandServesHost A result script plan
-        target.now.idr target.now.packets (I.remaining input.old) (I.remaining input.new) (O.contents output.old) (O.contents output.new) }
+        target.now.idr target.now.packets (I.remaining input.old) (I.remaining input.new)
+        (O.contents output.old) (O.contents output.new) }
 {
     let name = texts.script.as_str();
     let mut in_use = InUse::new(StreamsInUse::Both);
@@ -126,8 +127,7 @@ fn serve_under<
                 return status;
             }
             let SessionFiles { log, trace } = files;
-            let (served, pins, files) =
-                serve_host(target.packets, input, output, pins, log, trace);
+            let (served, pins, files) = serve_host(target.packets, input, output, pins, log, trace);
             let done = are_complete(&files, pins.trace());
             let (log, trace) = files.into_writers();
             let files = SessionFiles { log, trace };

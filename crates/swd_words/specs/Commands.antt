@@ -139,7 +139,8 @@ abbrev pub swd_app : App
 swd_app = commands_app bare_args_app ((codes "one", file_rules) ∷ (codes "decode", decode_rules)
     ∷ (codes "encode", file_rules) ∷ (codes "run", run_rules) ∷ (codes "target", target_rules)
     ∷ (codes "probe", probe_rules) ∷ (codes "draw", draw_rules) ∷ (codes "check", check_rules)
-    ∷ (codes "info", lead_rules ++ tries_rule ∷ []) ∷ (codes "core", core_rules) ∷ (codes "conform", conform_rules) ∷ (codes "load", load_rules)
+    ∷ (codes "info", lead_rules ++ tries_rule ∷ []) ∷ (codes "core", core_rules) ∷ (codes "conform", conform_rules)
+    ∷ (codes "load", load_rules)
     ∷ (codes "verify", read_rules) ∷ (codes "dump", dump_rules) ∷ (codes "probes", []) ∷ [])
 
 -- --remote alone is read as --remote=-, so that the argument after it isn't its value

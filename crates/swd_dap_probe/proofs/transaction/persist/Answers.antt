@@ -7,7 +7,8 @@ loop-place-preserved g c =
     let clock = g.L.ProbeLine.clocks in
     let l = c.loop-place in
     let a = c.args in
-    subst (λ n. DapWaits clock a.settings.now a.request a.word n a.line.now c.transact.new.line) (sym (add-one l.place)) (
+    subst (λ n. DapWaits clock a.settings.now a.request a.word n a.line.now c.transact.new.line)
+    (sym (add-one l.place)) (
       l.line,
       l.invariant,
       subst (λ x. DapTransaction clock a.settings.now a.request a.word x l.line c.transact.new.line) c.in-Wait.is

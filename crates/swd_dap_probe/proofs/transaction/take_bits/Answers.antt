@@ -11,7 +11,14 @@ returns-clause-takes g c =
         h.levels,
         [],
         record { seen = h.levels; clocks = h.goes; samples = refl },
-        (c.release.new.line, [], [], c.release.ensures, (c.hold.new.line, [], [], c.hold.ensures, (refl, refl), refl), refl),
+        (
+          c.release.new.line,
+          [],
+          [],
+          c.release.ensures,
+          (c.hold.new.line, [], [], c.hold.ensures, (refl, refl), refl),
+          refl,
+        ),
         sym (append-nil h.levels),
       );
       is = h.is;

@@ -1,4 +1,4 @@
-use Rattle.std.proofs.Common.{List, ap, map, sym, subst}
+use Rattle.std.proofs.Common.{ap, map, sym, subst}
 use Rattle.std.specs.Prelude.{All as Each}
 use Rattle.swd_port.specs.Outside.{wire_calls}
 use Rattle.swd_port.specs.Stories.{port_due_by}

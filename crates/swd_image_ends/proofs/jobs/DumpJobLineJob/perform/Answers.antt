@@ -10,6 +10,10 @@ dump-answer-requires g c = ap port_due_by c.requires
 
 pub returns : goal.returns
 returns g c =
-    dump_came_by (λ w. wire_calls w) (run_story_wire g.P.Story.at) _ _ _ c.dump-answer.result (λ bytes. bytes.items) _ _ _ _ _
-    c.requires
-    (record { dumps = c.dump-answer.ensures.dumps; fault = c.dump-answer.ensures.fault; report = c.dump-answer.ensures.report })
+    dump_came_by (λ w. wire_calls w) (run_story_wire g.P.Story.at) _ _ _ c.dump-answer.result (λ bytes. bytes.items)
+    _ _ _ _ _ c.requires
+    (record {
+      dumps = c.dump-answer.ensures.dumps;
+      fault = c.dump-answer.ensures.fault;
+      report = c.dump-answer.ensures.report;
+    })
