@@ -7,7 +7,9 @@ use Rattle.swd_port.specs.declared.access.Answer.{Answer}
 use Rattle.swd_port.specs.declared.wire.Due.{Due}
 use Rattle.swd_port.specs.declared.wire.Due.TheVariants.{Nothing, Lost as DueLost}
 use Rattle.swd_port.specs.Bus.{Bus}
-use Rattle.swd_port.specs.Port.{Port, Target, Live, Seen}
+use Rattle.swd_port.specs.declared.state.PowerUp.TheVariants.{Seen}
+use Rattle.swd_port.specs.declared.state.Reset.TheVariants.{Live}
+use Rattle.swd_port.specs.Port.{Port, Target}
 use Rattle.swd_port.specs.Choices.{Choice}
 use Rattle.swd_port.specs.Completion.{port_completed}
 use Rattle.swd_host.specs.declared.outcome.Report.{Report}
@@ -67,7 +69,6 @@ HostRefusesList list (Unaligned index) =
 HostRefusesList list Memory = (length list ≤ 65536) × AreHostAccesses list
 
 -- WHATEVER THE TARGET ANSWERS
-
 -- what has to come next on the wire, by how a call ended
 abbrev pub host_due_at_end : End → Due
 host_due_at_end Lost = DueLost
@@ -98,14 +99,12 @@ Closes spare kind list tries told next =
     ClosesWithin (λ n. spare + host_most_requests kind tries n) (bursts_limit kind) list told next
 
 -- WHERE WHAT WAS OBSERVED IS CONSISTENT WITH THE MODEL
-
 -- SELECT is 0 (AP 0, banks 0), and bit 0 of the identification is 1
 pub record HostKnowsTarget (s : Target) : Type 0 where
   pub select : s.select ≡ port_select_zero
   pub odd : s.identification % 2 ≡ 1
 
--- A target at rest, where a call may start: nothing is due, and no transfer is pending. Flags, power, CSW, TAR and all
--- else are arbitrary.
+-- A target at rest, where a call may start. Flags, power, CSW, TAR and all else are arbitrary.
 pub record IsAtRest (s : Port) : Type 0 where
   pub due : s.link.due ≡ Nothing
   pub known : HostKnowsTarget s.target
@@ -139,8 +138,7 @@ HostEndsAt end tries s t = ⊥
 -- The theorem of a call over a target with the bus m, which takes `opening` requests at least before its list, and no
 -- more where none is disturbed. The report fits the bus at the end, and the bus once a transfer that is still
 -- pending has taken effect. The call stops early only at a lost acknowledgement or after more than `tries` disturbed
--- requests. The kind of the bursts decides how many unanswered accesses are begun at most, and how many requests a
--- disturbance takes.
+-- requests. For `kind` see `bursts_limit` and `event_requests`.
 pub record RunFitsFrom (opening : ℕ) (kind : Bursts) (list : List Access) (tries : ℕ) (m : Bus) (told : HostReport)
     (s t : Port) : Type 0 where
   pub now : FitsFrom opening (bursts_limit kind) list m told t.target.memory

@@ -14,9 +14,12 @@ use Rattle.swd_port.specs.declared.cue.Cue.{Cue}
 use Rattle.swd_port.specs.declared.cue.Cue.TheVariants.{Lead, Ask, Take, Give}
 use Rattle.swd_port.specs.PlainMemory.{plain_address}
 use Rattle.swd_port.specs.Registers.{ctrl_stat_holds}
-use Rattle.swd_port.specs.Port.{port_request_for, Register, AbortWrite, CtrlStatRead, CtrlStatWrite, SelectWrite}
-use Rattle.swd_port.specs.Port.{ResendRead, RdbuffRead, DpOtherRead, DpIgnoredWrite, CswWrite, TarRead, TarWrite}
-use Rattle.swd_port.specs.Port.{DrwRead, DrwWrite, ApOtherRead, ApOtherWrite}
+use Rattle.swd_port.specs.declared.register.Register.{Register}
+use Rattle.swd_port.specs.declared.register.Register.TheVariants.{AbortWrite, CtrlStatRead, CtrlStatWrite, SelectWrite}
+use Rattle.swd_port.specs.declared.register.Register.TheVariants.{ResendRead, RdbuffRead, DpOtherRead, DpIgnoredWrite}
+use Rattle.swd_port.specs.declared.register.Register.TheVariants.{CswWrite, TarRead, TarWrite, DrwRead, DrwWrite}
+use Rattle.swd_port.specs.declared.register.Register.TheVariants.{ApOtherRead, ApOtherWrite}
+use Rattle.swd_port.specs.Port.{port_request_for}
 use Rattle.swd_port.specs.Stories.{is_port_ask}
 use Rattle.swd_host.specs.declared.outcome.End.TheVariants.{All}
 use Rattle.swd_host.specs.Reports.{HostReport}
