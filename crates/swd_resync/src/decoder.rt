@@ -154,8 +154,8 @@ impl CaptureDecoder {
         Some(FollowedPart { part, taken })
     }
 
-    /// Returns how many bits `take_bits` is best given next, 1 to 64. With these, where transactions follow one another,
-    /// a whole one comes to be held alone, as `take_tx` wants it.
+    /// Returns how many bits `take_bits` is best given next, 1 to 64. With these, where transactions follow one
+    /// another, a whole one comes to be held alone, as `take_tx` wants it.
     pub fn wanted_bits(&self) -> u8
         ensures some { 0 < result }
         ensures most { result ≤ 64 }
