@@ -141,13 +141,17 @@ impl<W, K: PartSink<W>> BitSink<W> for PartReader<K> {
     }
 
     fn take_bits(&mut self, writer: &mut W, bits: u64, count: u8) -> u8 {
-        if let Some(found) = self.source.take_tx(bits, count) {
-            self.sink.take_part(writer, &found.part);
-            return found.taken;
+        match self.source.take_tx(bits, count) {
+            Some(found) => {
+                self.sink.take_part(writer, &found.part);
+                found.taken
+            }
+            None => {
+                let taken = self.source.take_bits(bits, count);
+                give_due(self, writer);
+                taken
+            }
         }
-        let taken = self.source.take_bits(bits, count);
-        give_due(self, writer);
-        taken
     }
 
     fn pause(&mut self, writer: &mut W) -> Result<(), u64> {

@@ -10,7 +10,8 @@ use Rattle.swd_resync.specs.declared.queue.Queue.{Queue}
 use Rattle.swd_resync.specs.Parts.{past_zeros}
 use Rattle.swd_resync.specs.Queues.{resync_queued, IsResyncHeld}
 use Rattle.swd_resync.specs.Holding.{IsResyncNear}
-use Rattle.swd_resync.proofs.QueueLemmas.{resync_past_run, resync_past_alone, resync_queue_none_behind, resync_queue_alone}
+use Rattle.swd_resync.proofs.QueueLemmas.{resync_past_run, resync_past_alone, resync_queue_none_behind}
+use Rattle.swd_resync.proofs.QueueLemmas.{resync_queue_alone}
 
 -- a fact that holds where a result is None may be replaced by one that follows from it
 pub resync_if_none_weaker : {A : Type 0} (r : Option A) (P Q : Type 0) → (P → Q) → IfNone r P → IfNone r Q

@@ -121,9 +121,9 @@ impl CaptureDecoder {
         taken
     }
 
-    /// Takes a whole transaction from the lowest `count` bits of `bits`, the least significant of which is first in time,
-    /// where it holds nothing but a transaction. Returns that one, which is the next part, as no later bits can change
-    /// it. `None` says nothing about the bits, and changes nothing.
+    /// Takes a whole transaction from the lowest `count` bits of `bits`, the least significant of which is first in
+    /// time, where it holds nothing but a transaction. Returns that one, which is the next part, as no later bits can
+    /// change it. `None` says nothing about the bits, and changes nothing.
     ///
     /// `take_bits` and `due` find the same parts. This call is faster where whole transactions follow one another.
     pub fn take_tx(&mut self, bits: u64, count: u8) -> Option<FollowedPart>
@@ -154,8 +154,8 @@ impl CaptureDecoder {
         Some(FollowedPart { part, taken })
     }
 
-    /// Returns how many bits `take_bits` is best given next, 1 to 64. With these, where transactions follow one another, a
-    /// whole one comes to be held alone, as `take_tx` wants it.
+    /// Returns how many bits `take_bits` is best given next, 1 to 64. With these, where transactions follow one
+    /// another, a whole one comes to be held alone, as `take_tx` wants it.
     pub fn wanted_bits(&self) -> u8
         ensures some { 0 < result }
         ensures most { result ≤ 64 }

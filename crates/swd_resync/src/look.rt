@@ -59,7 +59,8 @@ fn seen(over: bool, ended: bool, window: TxBits) -> Sight
     }
 }
 
-/// Returns the transaction at the front of `count` bits, if it finds a whole one. No data phase follows its WAIT or FAULT.
+/// Returns the transaction at the front of `count` bits, if it finds a whole one. No data phase follows its WAIT or
+/// FAULT.
 pub(crate) fn whole_tx(bits: u64, count: u8) -> Option<WholeTx>
     ensures within { IfSome result (λ found. found.len ≤ count) }
     ensures sight { IfSome result (λ found. IsTxSight false found.tx found.len (low_bits found.len bits)) }

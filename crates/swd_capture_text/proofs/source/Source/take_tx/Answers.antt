@@ -1,6 +1,6 @@
-use Rattle.std.proofs.Common.{subst}
+use Rattle.std.proofs.Common.{◌+◌, subst, sym, ap, ◌∙◌}
 use Rattle.swd_bits.specs.Bits.{low_bits}
-use Rattle.swd_capture_text.specs.Sources.{SourceHas}
+use Rattle.swd_capture_text.specs.Sources.{SourceHas, source_fed}
 use Rattle.swd_capture_text.proofs.SourceLemmas.{source_capture_follows, source_if_some, source_on_some}
 use Rattle.swd_capture_text.proofs.source.Source.take_tx.Goals as goal
 
@@ -19,4 +19,5 @@ returns-in-Capture-clause-ready c =
     source_if_some c.take_tx.result (λ found takes. takes.settled) c.take_tx.ensures.part
 
 pub returns-in-Capture-clause-fed : goal.returns-in-Capture-clause-fed
-returns-in-Capture-clause-fed c = source_if_some c.take_tx.result (λ found takes. takes.fed) c.take_tx.ensures.part
+returns-in-Capture-clause-fed c = source_if_some c.take_tx.result
+    (λ found takes. takes.fed ∙ ap (λ s. source_fed s + found.taken) (sym c.in-Capture.is)) c.take_tx.ensures.part

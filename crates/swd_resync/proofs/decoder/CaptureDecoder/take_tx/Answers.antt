@@ -13,10 +13,11 @@ invariant_of-self c =
     let d = c.args.self.now in
     let n = c.in-Some-whole_tx.follower.len in
     let m = c.followed_step-step.result.next in
-    let none : resync_stage_counted m.stage ≡ 0 = ap (λ m. resync_stage_counted m.stage) c.followed_step-step.ensures.next
+    let none : resync_stage_counted m.stage ≡ 0 =
+    ap (λ m. resync_stage_counted m.stage) c.followed_step-step.ensures.next
     ∙ resync_stage_behind_counts c.in-Some.front.tx.result in
-    let all : length (resync_held c.of-self.result) ≡ n = ap length c.of-self.ensures.bits ∙ length-low_bits n c.args.bits
-    in
+    let all : length (resync_held c.of-self.result) ≡ n =
+    ap length c.of-self.ensures.bits ∙ length-low_bits n c.args.bits in
     let same = c.from.ensures in
     let within = c.in-Some-whole_tx.ensures.within in
     let room = c.requires.room in
