@@ -1,10 +1,11 @@
 //! The check of a trace.
-ghost use Rattle.std.specs.Prelude.{◌≡◌, false, None, List, [], ◌∷◌, replicate};
+ghost use Rattle.std.specs.Prelude.{◌≡◌, true, false, None, List, [], ◌∷◌, replicate, unwrap_or};
 ghost use Rattle.swd_bits.specs.declared.tx.Tx.{Tx as Transaction};
 ghost use Rattle.swd_trace.specs.declared.item.Item.{Item};
+ghost use Rattle.swd_observer.specs.Traces.{observed_item_len};
 ghost use Rattle.swd_check.specs.Checks.{IsCheckedCount};
 ghost use Rattle.swd_check.specs.Watched.{CheckIndex, CheckHolds, CheckTakes, CheckSays, CheckJudges};
-ghost use Rattle.swd_check.specs.Watched.{check_index, checked_rest};
+ghost use Rattle.swd_check.specs.Watched.{check_index, check_tx, checked_rest};
 
 use crate::beside::Beside;
 use crate::checked::Checked;
@@ -131,10 +132,7 @@ impl<A: Allocator + Copy> Check<A> {
             (None, None, false) => Checked::Crowded { place: 0 },
             (None, None, true) => Checked::Fits {
                 items,
-                from: match self.rules.began() {
-                    Some(0) => None,
-                    began => began,
-                },
+                from: place_after_first(self.rules.began()),
                 faults: self.rules.faults(),
                 gaps: self.rules.gaps(),
             },
@@ -143,7 +141,9 @@ impl<A: Allocator + Copy> Check<A> {
 
     // Returns the place from which on it isn't decided, since there was too little room, or too little was known.
     fn crowded(&self) -> Option<u64>
-        ensures { result ≡ None → self.now.rules.checker.broken ≡ None → self.now.rules.checker.crowded ≡ None }
+        ensures crowded { result ≡ None → self.now.rules.checker.broken ≡ None
+            → self.now.rules.checker.crowded ≡ None }
+        ensures began { result ≡ None → self.now.rules.checker.began ≡ None → ⊥ }
     {
         let Some(place) = self.rules.crowded() else {
             return self.beside.full();
@@ -187,8 +187,9 @@ impl<A: Allocator + Copy> Check<A> {
         if self.broken.is_some() {
             return;
         }
+        let is_first = self.rules.is_decided();
         match self.rules.transact(tx, place) {
-            Stand::Inside => self.judge(tx, place),
+            Stand::Inside => self.judge(tx, place, is_first),
             _ => {}
         }
     }
@@ -203,29 +204,38 @@ impl<A: Allocator + Copy> Check<A> {
         if self.broken.is_some() {
             return;
         }
+        let is_first = self.rules.is_decided();
         match self.rules.transact(tx, place) {
-            Stand::Inside => self.judge_all(&before, tx, place, &shown),
+            Stand::Inside => self.judge_all(&before, tx, &shown, place, is_first),
             Stand::Leaves => self.leave(),
             Stand::Outside => {}
         }
     }
 
     // Notes the rule that the last transaction breaks, if it does.
-    fn judge(&mut self, tx: &Tx, place: u64)
-        ensures { CheckJudges tx.now self.old self.new }
+    fn judge(&mut self, tx: &Tx, place: u64, is_first: bool)
+        ensures { CheckJudges (check_tx tx.now place is_first) self.old self.new }
     {
         if let Some(reason) = self.rules.reason(tx) {
             self.broken = Some(Broken {
                 place,
                 tx: *tx,
                 why: Why::Rule(reason),
+                is_first,
             });
         }
     }
 
     // Notes why the last transaction isn't right, if it isn't.
-    fn judge_all(&mut self, before: &Observer, tx: &Tx, place: u64, shown: &ShownItem)
-        ensures { CheckJudges tx.now self.old self.new }
+    fn judge_all(
+        &mut self,
+        before: &Observer,
+        tx: &Tx,
+        shown: &ShownItem,
+        place: u64,
+        is_first: bool,
+    )
+        ensures { CheckJudges (check_tx tx.now place is_first) self.old self.new }
     {
         match self.rules.reason(tx) {
             Some(reason) => {
@@ -233,21 +243,31 @@ impl<A: Allocator + Copy> Check<A> {
                     place,
                     tx: *tx,
                     why: Why::Rule(reason),
+                    is_first,
                 });
             }
-            None => self.judge_beside(before, tx, place, shown),
+            None => self.judge_beside(before, tx, shown, place, is_first),
         }
     }
 
     // The same of a transaction that breaks no rule.
-    fn judge_beside(&mut self, before: &Observer, tx: &Tx, place: u64, shown: &ShownItem)
-        ensures { self.old.rules.checker.broken ≡ None → CheckJudges tx.now self.old self.new }
+    fn judge_beside(
+        &mut self,
+        before: &Observer,
+        tx: &Tx,
+        shown: &ShownItem,
+        place: u64,
+        is_first: bool,
+    )
+        ensures { self.old.rules.checker.broken ≡ None → CheckJudges (check_tx tx.now place is_first) self.old
+            self.new }
     {
         if let Some(why) = self.beside.take(before, tx, &self.observer.observer, shown) {
             self.broken = Some(Broken {
                 place,
                 tx: *tx,
                 why,
+                is_first,
             });
         }
     }
@@ -256,6 +276,7 @@ impl<A: Allocator + Copy> Check<A> {
     fn leave(&mut self)
         ensures rules { self.new.rules ≡ self.old.rules }
         ensures broken { self.new.broken ≡ self.old.broken }
+        ensures place { self.new.observer.place ≡ self.old.observer.place }
     {
         self.observer.observer = Observer::new();
         self.beside.forget();
@@ -263,15 +284,29 @@ impl<A: Allocator + Copy> Check<A> {
 }
 
 // Returns an observer of a trace that begins with this state of the target.
-fn observer_of(start: CheckStart) -> TraceObserver {
+fn observer_of(start: CheckStart) -> TraceObserver
+    ensures { result.place ≡ 0 }
+{
     match start {
         CheckStart::Made => TraceObserver::of_made(),
         CheckStart::Rest | CheckStart::Any => TraceObserver::new(),
     }
 }
 
+// Returns the place at which a check began, or `None` if that is before the first bit.
+fn place_after_first(began: Option<u64>) -> Option<u64>
+    ensures { unwrap_or result 0 ≡ unwrap_or began 0 }
+{
+    match began {
+        Some(0) => None,
+        _ => began,
+    }
+}
+
 // Returns how many bits a transaction has.
-fn bits_in(tx: &Tx) -> u64 {
+fn bits_in(tx: &Tx) -> u64
+    ensures { result ≡ observed_item_len (Item.Tx tx.now) }
+{
     u64::from(match tx.result {
         TxEnd::Moved { .. } => MOVED_BITS,
         TxEnd::Wait | TxEnd::Fault => REFUSED_BITS,

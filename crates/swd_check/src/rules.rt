@@ -3,7 +3,9 @@ ghost use Rattle.std.specs.Prelude.{◌≡◌, ◌⊎◌, true, false, IfSome, N
 ghost use Rattle.swd_bits.specs.declared.tx.Tx.{Tx as Transaction};
 ghost use Rattle.swd_trace.specs.declared.item.Item.{Item};
 ghost use Rattle.swd_checker.specs.Standing.{CheckerWatches, CheckerLeaves};
-ghost use Rattle.swd_checker.specs.Fitting.{CheckerFollows};
+ghost use Rattle.swd_checker.specs.Standing.{checker_gap};
+ghost use Rattle.swd_checker.specs.Knowing.{opening_after_item};
+ghost use Rattle.swd_checker.specs.Fitting.{CheckerBeginsBy, CheckerFollows, CheckerKnows};
 ghost use Rattle.swd_check.specs.Watched.{CheckRulesHold, CheckRulesTake, IsCheckedAnswer, is_checked_ack};
 ghost use Rattle.swd_check.specs.Watched.{is_check_untold};
 
@@ -67,7 +69,7 @@ impl Rules {
 
     /// Takes the next item, which is no transaction.
     pub(crate) fn show(&mut self, item: &Item, place: u64)
-        ensures takes { CheckRulesTake item.now self.old self.new }
+        ensures takes { CheckRulesTake item.now place self.old self.new }
         ensures broken { ((tx : Transaction) → item.now ≡ Item.Tx tx → ⊥)
             → self.new.checker.broken ≡ self.old.checker.broken }
     {
@@ -80,7 +82,7 @@ impl Rules {
 
     /// Takes the next transaction. Returns where it stands.
     pub(crate) fn transact(&mut self, tx: &Tx, place: u64) -> Stand
-        ensures takes { CheckRulesTake (Item.Tx tx.now) self.old self.new }
+        ensures takes { CheckRulesTake (Item.Tx tx.now) place self.old self.new }
         ensures broken { (result ≡ Stand.Inside → ⊥) → self.new.checker.broken ≡ self.old.checker.broken }
         ensures untold { is_check_untold self.old.untold tx.now ≡ true → result ≡ Stand.Inside → ⊥ }
     {
@@ -105,8 +107,18 @@ impl Rules {
         self.checker.reason(tx, &self.origins)
     }
 
+    /// Returns whether all items so far were checked and decided.
+    pub(crate) fn is_decided(&self) -> bool
+        ensures inside { result ≡ true → self.now.outside ≡ None }
+        ensures uncrowded { result ≡ true → self.now.checker.crowded ≡ None }
+    {
+        self.outside.is_none() && matches!(self.checker.verdict(), Verdict::Fits)
+    }
+
     /// Returns the place of the first item that was checked, or `None` if none was yet.
-    pub(crate) fn began(&self) -> Option<u64> {
+    pub(crate) fn began(&self) -> Option<u64>
+        ensures { result ≡ self.now.checker.began }
+    {
         self.checker.began()
     }
 
@@ -136,7 +148,8 @@ impl Rules {
 
     /// Returns the place from which on it isn't decided, since there were too many worlds, or too little was known.
     pub(crate) fn crowded(&self) -> Option<u64>
-        ensures { result ≡ None → self.now.checker.broken ≡ None → self.now.checker.crowded ≡ None }
+        ensures crowded { result ≡ None → self.now.checker.broken ≡ None → self.now.checker.crowded ≡ None }
+        ensures began { result ≡ None → self.now.checker.began ≡ None → ⊥ }
     {
         match (self.checker.verdict(), self.checker.began()) {
             (Verdict::Crowded { place }, _) => Some(place),
@@ -149,6 +162,9 @@ impl Rules {
     fn reset(&mut self, item: &Item, place: u64)
         ensures watches { CheckerWatches item.now self.old.checker self.new.checker }
         ensures follows { CheckerFollows item.now self.old.checker self.new.checker }
+        ensures begins { CheckerBeginsBy item.now place self.old.checker self.new.checker }
+        ensures knows { self.old.checker.broken ≡ None → CheckerKnows (opening_after_item item.now
+            (checker_gap self.old.checker) self.old.checker.opening) self.old.checker self.new.checker }
         ensures outside { self.new.is_outside ≡ false }
         ensures place { self.new.outside ≡ self.old.outside }
         ensures answered { self.new.is_answered ≡ self.old.is_answered }
@@ -161,6 +177,9 @@ impl Rules {
     fn follow(&mut self, item: &Item, place: u64)
         ensures watches { CheckerWatches item.now self.old.checker self.new.checker }
         ensures follows { CheckerFollows item.now self.old.checker self.new.checker }
+        ensures begins { CheckerBeginsBy item.now place self.old.checker self.new.checker }
+        ensures knows { self.old.checker.broken ≡ None → CheckerKnows (opening_after_item item.now
+            (checker_gap self.old.checker) self.old.checker.opening) self.old.checker self.new.checker }
         ensures outside { self.new.is_outside ≡ self.old.is_outside }
         ensures place { self.new.outside ≡ self.old.outside }
         ensures answered { self.new.is_answered ≡ self.old.is_answered }

@@ -24,6 +24,9 @@ pub struct Broken {
     pub place: u64,
     pub tx: Tx,
     pub why: Why,
+    /// Whether all items before it were decided: none was crowded, or outside of the model. Of a target in its reset
+    /// state some run shows them then.
+    pub is_first: bool,
 }
 
 /// The most bytes that say why.

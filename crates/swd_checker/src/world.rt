@@ -88,8 +88,8 @@ impl Power {
         if on { Power::Unseen } else { Power::Off }
     }
 
-    /// Returns debug power once OK was answered to a request that can be refused. It is one of an access port, or of
-    /// the debug port.
+    /// Returns debug power once OK was answered to a request that can be refused. `ap` says whether the request is one
+    /// of an access port.
     #[inline(always)]
     pub(crate) fn confirmed(self, ap: bool) -> Power
         ensures { result ≡ (if ap then PowerSeen else self) }

@@ -407,6 +407,23 @@ takes_none_on e g a more none starts never f rest (inr took) =
     let on = takes_up_too more took.0 g f rest like took.3 in
     never on.0 rest on.1
 
+-- What f and the accesses behind it lead to is what e and its accesses lead to.
+pub record TakesUpAlong (e : Engine) (after : List Access) (f : Engine) (rest : List Access) : Type 0 where
+  pub takes : (g : Engine) (left : List Access) → HostTakesUp f rest g left → HostTakesUp e after g left
+  pub none : HostTakesUpNone f rest → HostTakesUpNone e after
+
+pub takes_up_along_here : (e : Engine) (after : List Access) → TakesUpAlong e after e after
+takes_up_along_here e after = record { takes = λ g left h. h; none = λ h. h }
+
+-- an access more is taken up
+pub takes_up_along_on : (e f g : Engine) (after more : List Access) (a : Access)
+    → TakesUpAlong e after f (a ∷ more) → is_some (engine_cue f) ≡ false
+    → engine_may_start (engine_outcome f) ≡ true → EngineStarts a (slice_get more 0) f g → TakesUpAlong e after g more
+takes_up_along_on e f g after more a along none may starts = record {
+  takes = λ h left took. along.takes h left (inr (g, may, starts, took));
+  none = λ never. along.none (takes_none_on f g a more none starts never);
+}
+
 -- nothing comes next where no access leads to a cue
 pub none_without_cue : (e : Engine) (after : List Access) → HostTakesUpNone e after → EnginesForeseeNone e after
 none_without_cue e after never o like q f rest saw =

@@ -122,12 +122,13 @@ impl Engine {
         ensures takes { IfSome result (λ rest. HostTakesUp self.old left.now self.new rest.now) }
         ensures none { IfNone result (HostTakesUpNone self.old left.now) }
     {
-        if self.cue().is_some() {
-            return Some(left);
+        let mut rest = left;
+        while self.cue().is_none() {
+            let (first, more) = self.next_access(rest)?;
+            self.start(first, more.first().copied());
+            rest = more;
         }
-        let (first, more) = self.next_access(left)?;
-        self.start(first, more.first().copied());
-        self.take_up(more)
+        Some(rest)
     }
 
     // Returns the first of these accesses and the others, if the one before was answered.

@@ -63,3 +63,28 @@ fn bits_that_are_not_told_decide_nothing(rt: HostRuntime) -> Result<(), Fail> {
     }
     Ok(())
 }
+
+const FIRST: &[(CheckOptions, &[u8], bool)] = &[
+    (
+        MADE,
+        b"reset 56\nidle 2\ndp 0 read ok 2ba01477\ndp 0 read ok 00000001\n",
+        true,
+    ),
+    (
+        OVERRUN,
+        b"reset 56\nidle 2\ndp 0 read ok 2ba01477\ndp c read wait\nreset 56\nidle 2\ndp 0 read ok 00000001\n",
+        false,
+    ),
+];
+
+// The item that breaks a rule is the first where all before it was decided.
+#[test]
+fn a_break_behind_an_undecided_item_is_not_the_first(rt: HostRuntime) -> Result<(), Fail> {
+    for (options, listing, is_first) in FIRST {
+        let Checked::Breaks(broken) = checked(rt.alloc(), *options, false, listing)? else {
+            return Err(Fail::from("no rule is broken"));
+        };
+        assert_eq!(rt; broken.is_first, *is_first);
+    }
+    Ok(())
+}

@@ -1,8 +1,7 @@
-use Rattle.std.proofs.Common.{◌++◌, false, refl, replicate, arith}
-use Rattle.swd_trace.specs.declared.item.Item.TheVariants.{Junk}
+use Rattle.std.proofs.Common.{refl, arith}
 use Rattle.swd_text.specs.Sinks.{sink_takes_nothing}
 use Rattle.swd_check.specs.Watched.{CheckHolds}
-use Rattle.swd_check.proofs.WatchLemmas.{check_same, check_skipped, check_skips}
+use Rattle.swd_check.proofs.WatchLemmas.{check_skipped, check_skips}
 use Rattle.swd_check.proofs.check.Check.skip.Goals as goal
 
 pub loop-taken-init : goal.loop-taken-init
@@ -13,7 +12,6 @@ loop-taken-preserved g c = check_skips c.args.self.now c.loop-taken.self c.watch
     c.loop-taken.invariant c.watch.ensures
 
 pub returns : goal.returns
-returns g c = λ i seen h. check_same i c.loop-taken.self _ (seen ++ replicate c.args.bits (Junk false)) refl refl
-    (check_skipped c.args.self.now c.loop-taken.self c.args.bits c.loop-taken._taken
-    (omega (arith, c.loop-taken-test.false, c.loop-taken.auto._taken-end, c.min-taken-end.ensures))
-    c.loop-taken.invariant i seen h)
+returns g c = check_skipped c.args.self.now c.loop-taken.self _ c.args.bits c.loop-taken._taken
+    (omega (arith, c.loop-taken-test.false, c.loop-taken.auto._taken-end, c.min-taken-end.ensures)) refl refl
+    c.saturating_add-behind.ensures c.loop-taken.invariant
