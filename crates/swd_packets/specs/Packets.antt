@@ -39,6 +39,9 @@ abbrev pub packet_told : List ℕ → List ℕ
 packet_told [] = []
 packet_told (byte ∷ rest) = to_le_bytes w16 (length (byte ∷ rest)) ++ byte ∷ rest
 
+abbrev pub pins_of_line : {D A : Type 0} → PinsLine D A → Pins D A
+pins_of_line line = line.pins
+
 abbrev pub packets_pins : {D A : Type 0} → Packets D A → Pins D A
 packets_pins packets = (processor_line packets.probe).pins
 
@@ -70,8 +73,7 @@ IsPacketsEnd served s taken byte = ⊥
 -- a probe before its first packet, at these pins
 pub record IsPacketsAtRest {D A : Type 0} (pins : Pins D A) (size : ℕ) (packets : Packets D A) : Type 0 where
   pub over : packets_pins packets ≡ pins
-  pub line : PinsLine D A
-  pub begun : IsDapBegun line (min (max size 64) 512) packets.probe
+  pub begun : IsDapBegun (processor_line packets.probe) (min (max size 64) 512) packets.probe
   pub empty : packets.frame.items ≡ []
 
 -- what a session says of the reader's input, of the writer, and of the probe

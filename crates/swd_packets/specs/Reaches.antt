@@ -1,9 +1,10 @@
--- Laws of packets at the pins of a target: they lead to pins that characters reach too, so that a server of any
--- protocol can serve them.
+-- Laws of packets at the pins of a target: they lead to pins that characters reach too, so that a server of any protocol
+-- can serve them.
 use Rattle.std.proofs.Common.{ℕ, List, sym, subst}
 use Rattle.swd_port.specs.Bus.{Bus}
 use Rattle.swd_bitbang.specs.Watching.{PinsReach}
 use Rattle.swd_bitbang.proofs.SessionLemmas.{pins_reach_further, pins_reach_themselves}
+use Rattle.swd_dap_probe.specs.declared.processor.Processor.{Processor}
 use Rattle.swd_dap_probe.specs.Moves.{IsDapMotion}
 use Rattle.swd_dap_probe.specs.Packets.{processor_line}
 use Rattle.swd_dap_probe.proofs.MotionLemmas.{takes_move}
@@ -25,7 +26,8 @@ motion bus = record {
 pub packets_reach : {D A : Type 0} (bus : D → Bus) (byte : ℕ) (answers : List ℕ) (s t : Packets D A)
     → PacketsStep bus byte answers s t → PinsReach bus (packets_pins s) (packets_pins t)
 packets_reach {D} {A} bus byte answers s t (keeps few frame e is) =
-    subst (λ p. PinsReach bus (packets_pins s) (processor_line p).pins) (sym e)
+    subst (λ (p : Processor (PinsLine D A)). PinsReach bus (packets_pins s) (processor_line {L = PinsLine D A} p).pins)
+    (sym e)
     (pins_reach_themselves bus (packets_pins s))
 packets_reach {D} {A} bus byte answers s t (completes whole told performed is) =
     takes_move (PinsLineClock bus) PinsLineResets (λ x y. PinsReach bus x.pins y.pins) (motion bus) _ told s.probe
