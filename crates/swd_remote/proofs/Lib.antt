@@ -3,3 +3,4 @@ pub mod LevelLemmas
 pub mod RunLemmas
 pub mod KeptLemmas
 pub mod WholeLemmas
+pub mod OpeningLemmas

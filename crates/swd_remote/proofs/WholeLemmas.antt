@@ -8,7 +8,7 @@ use Rattle.swd_remote.specs.declared.call_sink.WatchedTransport.{WatchedTranspor
 use Rattle.swd_remote.specs.declared.kept.RemoteTransport.{RemoteTransport}
 use Rattle.swd_remote.specs.declared.kept.RemoteStreams.{RemoteStreams}
 use Rattle.swd_remote.specs.declared.line.Way.{Way}
-use Rattle.swd_remote.specs.Kept.{AreLineCallsSent, LineHangsUp}
+use Rattle.swd_remote.specs.Kept.{LineEnded, LineKept}
 use Rattle.swd_remote.specs.WholeRuns.{GoesOver, GoesOverWatched}
 
 -- a wire without calls that is unchanged at an error has none then
@@ -21,18 +21,19 @@ remote_still_no_calls (Err fault) calls new old none same = ap calls same ∙ no
 pub remote_connection_went_over : {R W B : Type 0} (way : Way) (remaining : R → Option (List ℕ))
     (contents : W → Option (List ℕ)) (sent left : Option (List ℕ))
     (calls : List Call) (gone : Bool) (kept : RemoteTransport R W B) (line : RemoteStreams R W)
-    → ∥ PortTransportHasOver (λ made (k : RemoteTransport R W B). ∥ AreLineCallsSent way remaining contents sent left
-    made k.transport ∥₁) calls gone kept ∥₁
-    → ((made : List PortAttempt) → ∥ AreLineCallsSent way remaining contents sent left made kept.transport ∥₁
-    → ∥ LineHangsUp way remaining contents sent left made line ∥₁)
+    → ∥ PortTransportHasOver (λ made (k : RemoteTransport R W B). LineKept way remaining contents sent left made k)
+    calls gone kept ∥₁
+    → ((made : List PortAttempt) → LineKept way remaining contents sent left made kept
+    → LineEnded way remaining contents sent left made line)
     → ∥ GoesOver way remaining contents sent left line calls ∥₁
 remote_connection_went_over way remaining contents sent left calls gone kept line went hangs_up =
-    ∥∥₁_elim went ∥∥₁_prop (λ went. ∥∥₁_map (hangs_up went.made went.told) (λ hangs. record {
+    ∥∥₁_elim went ∥∥₁_prop (λ went. ∥∥₁_map (hangs_up went.made went.told) (λ ended. record {
       made = went.made;
       gone = gone;
       fetched = went.fetched;
       of = went.of;
-      hangs = hangs;
+      hangs = ended.0;
+      shows = ended.1;
     }))
 
 -- the same, and what a sink got of it
@@ -40,13 +41,19 @@ pub remote_watched_went_over : {R W B K : Type 0} (got : List PortAttempt → K 
     (way : Way) (remaining : R → Option (List ℕ)) (contents : W → Option (List ℕ)) (sent left : Option (List ℕ))
     (calls : List Call) (gone : Bool) (watched : WatchedTransport (RemoteTransport R W B) K) (line : RemoteStreams R W)
     → ∥ PortTransportHasOver (λ made (w : WatchedTransport (RemoteTransport R W B) K).
-    ∥ AreLineCallsSent way remaining contents sent left made w.transport.transport ∥₁ × got made w.sink) calls gone
-    watched ∥₁
-    → ((made : List PortAttempt) → ∥ AreLineCallsSent way remaining contents sent left made
-    watched.transport.transport ∥₁ → ∥ LineHangsUp way remaining contents sent left made line ∥₁)
+    LineKept way remaining contents sent left made w.transport × got made w.sink) calls gone watched ∥₁
+    → ((made : List PortAttempt) → LineKept way remaining contents sent left made watched.transport
+    → LineEnded way remaining contents sent left made line)
     → ∥ GoesOverWatched got way remaining contents sent left line calls watched.sink ∥₁
 remote_watched_went_over got way remaining contents sent left calls gone watched line went hangs_up =
-    ∥∥₁_elim went ∥∥₁_prop (λ went. ∥∥₁_map (hangs_up went.made went.told.0) (λ hangs. record {
-      over = record { made = went.made; gone = gone; fetched = went.fetched; of = went.of; hangs = hangs };
+    ∥∥₁_elim went ∥∥₁_prop (λ went. ∥∥₁_map (hangs_up went.made went.told.0) (λ ended. record {
+      over = record {
+        made = went.made;
+        gone = gone;
+        fetched = went.fetched;
+        of = went.of;
+        hangs = ended.0;
+        shows = ended.1;
+      };
       watched = went.told.1;
     }))

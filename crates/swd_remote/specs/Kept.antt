@@ -6,6 +6,7 @@ use Rattle.swd_sequences.specs.Alphabet.{alphabet_byte}
 use Rattle.swd_port.specs.declared.outside.Disconnected.{Disconnected}
 use Rattle.swd_port.specs.Transports.{PortAttempt, port_attempt}
 use Rattle.swd_remote.specs.declared.kept.RemoteStreams.{RemoteStreams}
+use Rattle.swd_remote.specs.declared.kept.RemoteTransport.{RemoteTransport}
 use Rattle.swd_remote.specs.declared.line.LineTransport.{LineTransport}
 use Rattle.swd_remote.specs.declared.line.LineTransport.TheVariants.{Server, Probe}
 use Rattle.swd_remote.specs.declared.line.Way.{Way}
@@ -17,6 +18,7 @@ use Rattle.swd_remote.specs.Remotes.{RemoteQuitsAt}
 use Rattle.swd_remote.specs.Runs.{AreRemoteCallsMade, IsRemoteCallMade, RemoteExactUpTo, remote_all_levels}
 use Rattle.swd_remote.specs.Runs.{remote_connection_characters}
 use Rattle.swd_remote.specs.Ways.{IsOnRemoteWay}
+use Rattle.swd_remote.specs.Openings.{OpeningShows}
 use Rattle.swd_remote.specs.Probes.{HasProbeExchanged, AreProbeCallsMade, ProbeHangsUp}
 use Rattle.swd_dap.specs.Calls.{DapCallsAt}
 
@@ -82,3 +84,15 @@ abbrev pub LineHangsUp : {R W : Type 0} → Way → (R → Option (List ℕ)) �
     → Option (List ℕ) → List PortAttempt → RemoteStreams R W → Type 0
 LineHangsUp Characters remaining contents sent left calls line = RemoteHangsUp remaining contents sent left calls line
 LineHangsUp (Packets speed framed) remaining contents sent left calls line = ProbeHangsUp speed calls line
+
+-- these calls were made since the beginning of a connection, and what it knows of its opening is what they showed
+abbrev pub LineKept : {R W B : Type 0} → Way → (R → Option (List ℕ)) → (W → Option (List ℕ)) → Option (List ℕ)
+    → Option (List ℕ) → List PortAttempt → RemoteTransport R W B → Type 0
+LineKept way remaining contents sent left calls kept =
+    ∥ AreLineCallsSent way remaining contents sent left calls kept.transport × OpeningShows calls kept.opening ∥₁
+
+-- and up to its end
+abbrev pub LineEnded : {R W : Type 0} → Way → (R → Option (List ℕ)) → (W → Option (List ℕ)) → Option (List ℕ)
+    → Option (List ℕ) → List PortAttempt → RemoteStreams R W → Type 0
+LineEnded way remaining contents sent left calls line =
+    ∥ LineHangsUp way remaining contents sent left calls line × OpeningShows calls line.opening ∥₁

@@ -14,10 +14,11 @@ use Rattle.swd_host.specs.Sent.{HostReportsCalls}
 use Rattle.swd_remote.specs.declared.kept.RemoteStreams.{RemoteStreams}
 use Rattle.swd_remote.specs.declared.line.Way.{Way}
 use Rattle.swd_remote.specs.Kept.{LineHangsUp}
+use Rattle.swd_remote.specs.Openings.{OpeningShows}
 
 -- These were the calls of a wire over a connection from its beginning to its end, the last one first. `made`
 -- are the calls that they made of the transport, in order: where characters go over it, up to the first error
--- theirs were sent, and their levels were read.
+-- theirs were sent, and their levels were read. How far the opening of the target came is what they showed.
 pub record GoesOver {R W : Type 0} (way : Way) (remaining : R → Option (List ℕ)) (contents : W → Option (List ℕ))
     (sent left : Option (List ℕ))
     (line : RemoteStreams R W) (calls : List Call) : Type 0 where
@@ -26,6 +27,7 @@ pub record GoesOver {R W : Type 0} (way : Way) (remaining : R → Option (List �
   pub fetched : ℕ
   pub of : PortTransportMade calls made gone fetched
   pub hangs : LineHangsUp way remaining contents sent left made line
+  pub shows : OpeningShows made line.opening
 
 -- the same, and what a sink states of the calls that it got: those that were made of the transport
 pub record GoesOverWatched {R W K : Type 0} (got : List PortAttempt → K → Type 0) (way : Way)

@@ -4,6 +4,7 @@ ghost use Rattle.swd_remote.specs.declared.line.Way.{Way};
 ghost use Rattle.swd_remote.specs.declared.line.Way.TheVariants.{Characters};
 ghost use Rattle.swd_port.specs.Transports.{PortAttempt};
 
+use crate::call_sink::CallSink;
 use crate::line::{Line, LineTransport};
 use crate::opening::Opening;
 use crate::remote::Fault;
@@ -71,14 +72,14 @@ impl<R, W> RemoteStreams<R, W> {
 }
 
 impl<R: Read, W: Write, B: InitialStreams> RemoteTransport<R, W, B> {
-    ghost use Rattle.swd_remote.specs.Kept.{AreLineCallsSent, LineHangsUp};
+    ghost use Rattle.swd_remote.specs.Kept.{LineEnded, LineKept};
 
     /// Returns a transport over which nothing was sent yet.
     pub fn new(line: Line<R, W>) -> RemoteTransport<R, W, B>
         requires way { B.way ≡ line.way }
         requires sent { B.sent ≡ W.contents line.writer }
         requires left { B.left ≡ R.remaining line.reader }
-        ensures { ∥ AreLineCallsSent B.way R.remaining W.contents B.sent B.left [] result.transport ∥₁ }
+        ensures { LineKept B.way R.remaining W.contents B.sent B.left [] result }
     {
         RemoteTransport {
             transport: LineTransport::new(line),
@@ -90,9 +91,8 @@ impl<R: Read, W: Write, B: InitialStreams> RemoteTransport<R, W, B> {
     /// Ends the connection, unless an error came before, and returns it. Over characters it sends what is queued, and
     /// `Q`.
     pub fn hang_up(self) -> RemoteStreams<R, W>
-        ensures { (calls : List PortAttempt)
-            → ∥ AreLineCallsSent B.way R.remaining W.contents B.sent B.left calls self.transport ∥₁
-            → ∥ LineHangsUp B.way R.remaining W.contents B.sent B.left calls result ∥₁ }
+        ensures { (calls : List PortAttempt) → LineKept B.way R.remaining W.contents B.sent B.left calls self
+            → LineEnded B.way R.remaining W.contents B.sent B.left calls result }
     {
         let RemoteTransport {
             transport,
@@ -104,10 +104,9 @@ impl<R: Read, W: Write, B: InitialStreams> RemoteTransport<R, W, B> {
 }
 
 impl<R: Read, W: Write, B: InitialStreams> Transport for RemoteTransport<R, W, B> {
-    ghost use Rattle.swd_remote.specs.Kept.{AreLineCallsSent};
+    ghost use Rattle.swd_remote.specs.Kept.{LineKept};
 
-    ghost tells = { λ calls kept. ∥ AreLineCallsSent B.way R.remaining W.contents B.sent B.left calls kept.transport
-        ∥₁ };
+    ghost tells = { λ calls kept. LineKept B.way R.remaining W.contents B.sent B.left calls kept };
 
     fn step(&mut self, cue: Cue) -> Result<u64, Disconnected> {
         let told = self.transport.perform(cue);

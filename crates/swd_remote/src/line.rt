@@ -112,9 +112,10 @@ impl<R: Read, W: Write> LineTransport<R, W> {
 
     /// Ends the connection, unless an error came before, and returns its streams.
     pub(crate) fn hang_up(self, opening: Opening) -> RemoteStreams<R, W>
-        ensures { (way : Way) (sent left : Option (List ℕ)) (calls : List PortAttempt)
+        ensures hangs { (way : Way) (sent left : Option (List ℕ)) (calls : List PortAttempt)
             → AreLineCallsSent way R.remaining W.contents sent left calls self
             → LineHangsUp way R.remaining W.contents sent left calls result }
+        ensures opening { result.opening ≡ opening }
     {
         match self {
             LineTransport::Server(transport) => end_server(transport, opening),
@@ -147,9 +148,10 @@ fn end_server<R: Read, W: Write>(
     transport: ProbeTransport<Remote<R, W>>,
     opening: Opening,
 ) -> RemoteStreams<R, W>
-    ensures { (sent left : Option (List ℕ)) (calls : List PortAttempt)
+    ensures hangs { (sent left : Option (List ℕ)) (calls : List PortAttempt)
         → AreRemoteCallsSent R.remaining W.contents sent left calls transport
         → RemoteHangsUp R.remaining W.contents sent left calls result }
+    ensures opening { result.opening ≡ opening }
 {
     let mut remote = transport.into_probe();
     let _ = remote.quit();
@@ -169,8 +171,9 @@ fn end_probe<R: Read, W: Write>(
     transport: DapTransport<Reports<R, W>>,
     opening: Opening,
 ) -> RemoteStreams<R, W>
-    ensures { (speed : ℕ) (calls : List PortAttempt) → AreProbeCallsMade speed calls transport
+    ensures hangs { (speed : ℕ) (calls : List PortAttempt) → AreProbeCallsMade speed calls transport
         → ProbeHangsUp speed calls result }
+    ensures opening { result.opening ≡ opening }
 {
     let in_doubt = transport.in_doubt();
     let (packets, fault) = transport.hang_up();

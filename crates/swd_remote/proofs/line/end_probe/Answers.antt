@@ -1,7 +1,7 @@
 use Rattle.swd_remote.proofs.line.end_probe.Goals as goal
 
-pub returns : goal.returns
-returns g c = λ speed calls h. record {
+pub returns-clause-hangs : goal.returns-clause-hangs
+returns-clause-hangs g c = λ speed calls h. record {
   last = c.args.transport;
   made = h;
   end = c.hang_up-packets.result.0;

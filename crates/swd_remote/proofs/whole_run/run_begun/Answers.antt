@@ -7,7 +7,7 @@ use Rattle.swd_remote.proofs.whole_run.run_begun.Goals as goal
 pub returns : goal.returns
 returns g c =
     ∥∥₁_elim (c.into_transport.ensures refl) ∥∥₁_prop (λ went.
-    ∥∥₁_map (c.hang_up.ensures went.made went.told) (λ hangs. record {
+    ∥∥₁_map (c.hang_up.ensures went.made went.told) (λ ended. record {
       calls = c.run-ran.new.wire.noted.calls;
       closes = c.run-ran.ensures.closes;
       fits = host_run_fresh_wire c.run-ran.result c.args.accesses.now c.args.tries g.S.Story.at
@@ -24,6 +24,7 @@ returns g c =
         gone = c.run-ran.new.wire.gone;
         fetched = went.fetched;
         of = went.of;
-        hangs = hangs;
+        hangs = ended.0;
+        shows = ended.1;
       };
     }))
