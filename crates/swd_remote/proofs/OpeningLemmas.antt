@@ -1,6 +1,6 @@
 -- What is known of an opening that takes one call more.
 use Rattle.std.proofs.Common.{◌≡◌, ◌∙◌, ℕ, Bool, true, false, ◌||◌, List, [], ◌∷◌, ◌++◌, Option, None, Some, refl}
-use Rattle.std.proofs.Common.{Result, ap, if◌then◌else◌, reverse, subst, sym}
+use Rattle.std.proofs.Common.{Result, ap, if◌then◌else◌, subst, sym}
 use Rattle.std.proofs.lemmas.List.{reverse-append}
 use Rattle.std.specs.List.{cons_option}
 use Rattle.swd_bits.specs.declared.tx.Tx.{Tx}
