@@ -142,12 +142,15 @@ pub record CheckWatches (item : Item) (place : ℕ) (c now : Checker) : Type 0 w
   pub begins : CheckerBeginsBy item place c now
   pub knows : c.broken ≡ None → CheckerKnows (opening_after_item item (checker_gap c) c.opening) c now
 
+none_not_some : (n : ℕ) → None ≡ Some n → ⊥
+none_not_some n e = cc
+
 begun_watch : (before : Option ℕ) (start : CheckStart) (items : List Item) (item : Item) (place from : ℕ)
     (c now : Checker) → c.began ≡ before → CheckWatches item place c now → c.broken ≡ None → now.broken ≡ None
     → now.crowded ≡ None → place ≡ check_place items → CheckRulesFit start items c → now.began ≡ Some from
     → CheckRulesFrom start (items ++ item ∷ []) from now
 begun_watch None start items item place from c now was w whole still room at h e =
-    let other : start ≡ Made → ⊥ = λ made. let f : None ≡ Some 0 = sym was ∙ h.made made in cc in
+    let other : start ≡ Made → ⊥ = λ made. none_not_some 0 (sym was ∙ h.made made) in
     let s = w.begins.opens room still was from e in record {
       skipped = items;
       rest = item ∷ [];
