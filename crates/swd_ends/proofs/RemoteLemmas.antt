@@ -26,8 +26,8 @@ remote_end_came calls_in story limits batches read same s t begins answer old ne
 
 -- the result of a run of a script that was read
 pub remote_end_answered : {story : ℕ → Port} {limits : Limits} {Over : List Call → Type 0}
-    {script old new : Option (List ℕ)} {before after : RunFiles} (unused : Type 0) (answer : Result Finished EngineFault)
-    (told : Result Finished RemoteFault) → told ≡ remote_end_answer answer
+    {script old new : Option (List ℕ)} {before after : RunFiles} (unused : Type 0)
+    (answer : Result Finished EngineFault) (told : Result Finished RemoteFault) → told ≡ remote_end_answer answer
     → RanRemoteEnd story limits Over answer script old new before after
     → RunsRemote story limits Over unused told script old new before after
 remote_end_answered {story} {limits} {Over} {script} {old} {new} {before} {after} unused (Ok finished) told is ran =

@@ -381,11 +381,6 @@ pub if_none_so : {X : Type 0} (o : Option X) (P : Type 0) → P → IfNone o P
 if_none_so None P p = p
 if_none_so (Some x) P p = tt
 
--- likewise, by what holds there already
-pub if_none_then : {X : Type 0} (o : Option X) (P Q : Type 0) → (P → Q) → IfNone o P → IfNone o Q
-if_none_then None P Q f p = f p
-if_none_then (Some x) P Q f p = tt
-
 cons_or_none : (a : Access) (more : List Access) → a ∷ more ≡ [] → ⊥
 cons_or_none a more h = cc
 
@@ -411,9 +406,6 @@ takes_none_on e g a more none starts never f rest (inr took) =
 pub record TakesUpAlong (e : Engine) (after : List Access) (f : Engine) (rest : List Access) : Type 0 where
   pub takes : (g : Engine) (left : List Access) → HostTakesUp f rest g left → HostTakesUp e after g left
   pub none : HostTakesUpNone f rest → HostTakesUpNone e after
-
-pub takes_up_along_here : (e : Engine) (after : List Access) → TakesUpAlong e after e after
-takes_up_along_here e after = record { takes = λ g left h. h; none = λ h. h }
 
 -- an access more is taken up
 pub takes_up_along_on : (e f g : Engine) (after more : List Access) (a : Access)

@@ -1,5 +1,5 @@
--- Laws of packets at the pins of a target: they lead to pins that characters reach too, so that a server of any protocol
--- can serve them.
+-- Laws of packets at the pins of a target: they lead to pins that characters reach too, so that a server of any
+-- protocol can serve them.
 use Rattle.std.proofs.Common.{ℕ, List, sym, subst}
 use Rattle.swd_port.specs.Bus.{Bus}
 use Rattle.swd_bitbang.specs.Watching.{PinsReach}

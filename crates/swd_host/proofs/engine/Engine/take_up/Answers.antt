@@ -1,4 +1,5 @@
-use Rattle.swd_host.proofs.Words.{◌≡◌, ◌∙◌, ap, subst, not, is_some, true, false, engine_cue, EngineStarts, List, Access}
+use Rattle.swd_host.proofs.Words.{◌≡◌, ◌∙◌, ap, subst, not, is_some, true, false, engine_cue, EngineStarts, List}
+use Rattle.swd_host.proofs.Words.{Access}
 use Rattle.std.specs.Prelude.{slice_get}
 use Rattle.swd_host.proofs.Foreseeing.{TakesUpAlong, takes_up_along_on, takes_up_none, takes_none_here, if_none_so}
 use Rattle.swd_host.proofs.engine.Engine.take_up.Goals as goal
