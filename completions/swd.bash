@@ -15,14 +15,14 @@ _swd() {
     if ((COMP_CWORD == 1)); then
         case $word in
         -*) words='--help --version -h -V' ;;
-        *) words='one decode encode run target draw check info core conform load verify dump probes help' ;;
+        *) words='one decode encode run target probe draw check info core conform load verify dump probes help' ;;
         esac
         COMPREPLY=($(compgen -W "$words" -- "$word"))
         return
     fi
     case ${COMP_WORDS[1]} in
     help)
-        ((COMP_CWORD > 2)) || COMPREPLY=($(compgen -W 'one decode encode run target draw check info core conform load verify dump probes help' -- "$word"))
+        ((COMP_CWORD > 2)) || COMPREPLY=($(compgen -W 'one decode encode run target probe draw check info core conform load verify dump probes help' -- "$word"))
         return
         ;;
     one)
@@ -39,6 +39,9 @@ _swd() {
         ;;
     target)
         words='--memory --base --plan --log --trace --idr --help -h'
+        ;;
+    probe)
+        words='--memory --base --plan --log --trace --idr --size --help -h'
         ;;
     draw)
         words='--items --names --resync --overrun --help -h'
@@ -81,7 +84,7 @@ _swd() {
         mapfile -t COMPREPLY < <(compgen -f -- "$word")
         return
         ;;
-    --base | --hole | --idr | --items | --resume | --speed | --tries | --plain)
+    --base | --hole | --idr | --items | --resume | --size | --speed | --tries | --plain)
         return
         ;;
     --format)

@@ -10,6 +10,7 @@ import socket
 import subprocess
 import threading
 from types import SimpleNamespace
+from typing import Protocol
 
 from .bits import Request
 from .calls import BASE
@@ -38,15 +39,21 @@ def simulated(words: int, size: int, in_flight: int = 1, marks=lambda number: CL
     return bus, Probe(PinsLine(MarkedPins(IdentifiedTarget(bus, Quirks()), marks)), size, in_flight)
 
 
-def serve(probe: Probe, line: socket.socket) -> None:
+class Takes(Protocol):
+    """What answers packets: the probe of this model, or `swd probe`."""
+
+    def take(self, packet: bytes) -> bytes: ...
+
+
+def serve(probe: Takes, line: socket.socket) -> None:
     """Answers each datagram by a reply of the same size, up to the end."""
     while packet := line.recv(4096):
         reply = probe.take(packet)
         line.send(reply.ljust(len(packet), b"\xa5"))
 
 
-def pyocd_over(probe: Probe) -> SimpleNamespace:
-    """pyOCD's memory access over a probe: `access`, its `probe`, and `packets()`, how many it sent so far."""
+def pyocd_over(probe: Takes) -> SimpleNamespace:
+    """pyOCD's memory access over a probe: `access`, its `probe`, and `packets()`, how many a probe of this model had."""
     from pyocd.coresight import ap, dap
     from pyocd.probe.cmsis_dap_probe import CMSISDAPProbe
     from pyocd.probe.debug_probe import DebugProbe
@@ -106,7 +113,7 @@ def built_hidapi(room: str) -> str:
     return library
 
 
-def openocd_over(probe: Probe, room: str, hidapi: str, commands: list[str]) -> tuple[int, str]:
+def openocd_over(probe: Takes, room: str, hidapi: str, commands: list[str]) -> tuple[int, str]:
     """The status of OpenOCD with these commands over a probe, and what it said."""
     name = f"{room}/hidapi"
     with socket.socket(socket.AF_UNIX, socket.SOCK_SEQPACKET) as listening:

@@ -29,11 +29,11 @@ class SimulatedProbe:
         self.status: int | None = None
 
     def connect(self) -> None:
-        """Opens both ends for `exchange`."""
+        """Opens both ends for `take`."""
         self.to = open(self.there, "wb", buffering=0)
         self.of = open(self.back, "rb")
 
-    def exchange(self, packet: bytes) -> bytes:
+    def take(self, packet: bytes) -> bytes:
         """The reply to a packet."""
         self.to.write(struct.pack("<H", len(packet)) + packet)
         (length,) = struct.unpack("<H", self.of.read(2))

@@ -51,6 +51,7 @@ fn tip_for(words: &[&str], text: &str) -> Option<&'static str> {
         "load" | "verify" if text.contains(NO_FILE) => {
             Some("ADDR comes before FILE, also for one with its own addresses: ADDR 0 adds nothing")
         }
+        "levels" => Some("./swd and the swd of a release run it, a program beside this one"),
         "help" => Some("swd --help prints the help, and swd COMMAND --help that of a command"),
         "one" | "decode" | "encode" | "draw" | "check" if names_output(words) => {
             Some("the result goes to standard output: >FILE writes it to a file")

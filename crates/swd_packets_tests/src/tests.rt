@@ -31,6 +31,16 @@ const TOLD: &[u8] = &[
     0x23, 7, 0, 0x05, 3, 1, 0, 0, 0, 0, 7, 0, 0x05, 2, 1, 0xef, 0xbe, 0xad, 0xde,
 ];
 
+// DAP_TransferAbort, a packet of no bytes, and a command that there isn't.
+const ABORTED: &[u8] = &[1, 0, 0x07, 0, 0, 1, 0, 0x77];
+
+const ABORTED_TOLD: &[u8] = &[1, 0, 0xff, 1, 0, 0xff];
+
+// A packet, and then a length of 513.
+const TOO_LONG: &[u8] = &[2, 0, 0x02, 0x01, 1, 2, 0x07];
+
+const CONNECTED: &[u8] = &[2, 0, 0x02, 0x01];
+
 // What a session of these bytes makes of a memory of sixteen words, and its log.
 fn served<R: Abort>(
     rt: &R,
@@ -67,13 +77,11 @@ fn a_word_is_written_and_read_by_packets(rt: HostRuntime) -> Result<(), Fail> {
 
 #[test]
 fn an_aborted_transfer_has_no_reply(rt: HostRuntime) -> Result<(), Fail> {
-    let asked = [1, 0, 0x07, 0, 0, 1, 0, 0x77];
-    let told = [1, 0, 0xff, 1, 0, 0xff];
     served(
         &rt,
         rt.alloc(),
-        asked.as_slice(),
-        told.as_slice(),
+        ABORTED,
+        ABORTED_TOLD,
         Served::Ended,
         b"cycles 0 ".as_slice(),
     )
@@ -81,14 +89,12 @@ fn an_aborted_transfer_has_no_reply(rt: HostRuntime) -> Result<(), Fail> {
 
 #[test]
 fn a_packet_above_512_bytes_ends_the_session(rt: HostRuntime) -> Result<(), Fail> {
-    let asked = [2, 0, 0x02, 0x01, 1, 2, 0x07];
-    let told = [2, 0, 0x02, 0x01];
     let bad = Served::Bad { place: 5, byte: 2 };
     served(
         &rt,
         rt.alloc(),
-        asked.as_slice(),
-        told.as_slice(),
+        TOO_LONG,
+        CONNECTED,
         bad,
         b"cycles 0 ".as_slice(),
     )

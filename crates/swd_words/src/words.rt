@@ -53,6 +53,10 @@ WORD is 8 hexadecimal digits, N a decimal number.
 
 FILE may be - for standard input; a file of that name is ./-
 
+swd levels prints the trace of a logic analyser's capture, a CSV or VCD file. It
+is a program beside this one, with a --help of its own:
+  swd levels capture.csv | swd decode
+
 Status: 0 success; 1 a run that stopped early or that its script fails, a byte
 that differs, or a rule that is broken; 2 a usage, input, I/O or out-of-memory
 error, with a line on standard error, or a verdict that isn't decided; 141 the
@@ -161,7 +165,8 @@ With --check and --remote the session is checked while it goes on. At the end a
 line on standard error has the verdict: that of swd check --rest of its trace.
 If it is breaks, the target doesn't conform to the port model, or it wasn't at
 rest before, and the status is 1 in place of 0. A probe doesn't tell which bits
-of a word arrived damaged: then the verdict may be breaks without a cause.
+of a word arrived damaged: the verdict is outside there, and the check begins
+anew at the next line reset.
 
 The trace has every bit on the line, one item per line: see swd decode. The
 accesses are those of the target's memory that the trace shows, one per line:
