@@ -137,7 +137,7 @@ world_target_okays w n v answers r late ap x plain access on h = record {
 
 -- What a read that returns the last returned value, or the read buffer, leads to, and from which words: of what it
 -- returns, the word is the last returned value after it, or the filler where that is unknown.
-pub record WorldReturns (w next : World) (r : Register) (filler : ℕ) (v : WorldWords) : Type 0 where
+pub record WorldGivesBack (w next : World) (r : Register) (filler : ℕ) (v : WorldWords) : Type 0 where
   pub before : WorldWords
   pub exact : IsWorldExact w before
   pub choice : Choice
@@ -184,7 +184,7 @@ now_resends w held x up h is = record {
 -- RESEND returned a word of which this is known
 pub world_resends : (w : World) (held : Held) (filler : ℕ) (v : WorldWords) → filler < 2 ^ 32
     → IsHeldExact w.last_returned v.last_returned → IsWorldExact (record w { last_returned = held }) v
-    → WorldReturns w (record w { last_returned = held }) ResendRead filler v
+    → WorldGivesBack w (record w { last_returned = held }) ResendRead filler v
 world_resends w held filler v small within exact =
     let c : Choice = choice_of filler 0 0 false in
     record {
@@ -211,7 +211,7 @@ world_resends w held filler v small within exact =
 pub world_posts_rdbuff : (w : World) (held : Held) (filler : ℕ) (v : WorldWords) → IsWorldSound w → w.pending ≡ None
     → filler < 2 ^ 32
     → IsHeldExact w.buffer v.last_returned → IsWorldExact (world_posted held w) v
-    → WorldReturns w (world_posted held w) RdbuffRead filler v
+    → WorldGivesBack w (world_posted held w) RdbuffRead filler v
 world_posts_rdbuff w held filler v sound none small within exact =
     let some = world_some w sound in
     let before : WorldWords = record v { buffer = v.last_returned; last_returned = some.0.last_returned } in
@@ -260,7 +260,7 @@ pub world_posts_csw : (w : World) (held : Held) (filler : ℕ) (v : WorldWords) 
     → filler < 2 ^ 32
     → IsHeldExact w.buffer v.last_returned
     → IsWorldExact (record (world_posted held w) { buffer = HeldCsw w.increments }) v
-    → WorldReturns w (record (world_posted held w) { buffer = HeldCsw w.increments }) CswRead filler v
+    → WorldGivesBack w (record (world_posted held w) { buffer = HeldCsw w.increments }) CswRead filler v
 world_posts_csw w held filler v sound none small within exact =
     let word : ℕ = exact.buffer.0 in
     let same : csw_read w.increments word ≡ word =
@@ -302,7 +302,7 @@ pub world_posts_drw : (w : World) (held : Held) (filler : ℕ) (v : WorldWords) 
     → filler < 2 ^ 32
     → IsHeldExact w.buffer v.last_returned
     → IsWorldExact (record (world_posted held w) { pending = Some TransferRead }) v
-    → WorldReturns w (record (world_posted held w) { pending = Some TransferRead }) DrwRead filler v
+    → WorldGivesBack w (record (world_posted held w) { pending = Some TransferRead }) DrwRead filler v
 world_posts_drw w held filler v sound none small within exact =
     let some = world_some w sound in
     let before : WorldWords = record v { buffer = v.last_returned; last_returned = some.0.last_returned } in
@@ -334,7 +334,7 @@ world_posts_drw w held filler v sound none small within exact =
 -- TAR where it is unknown, and each of its addresses,
 pub world_posts_tar_unknown : (w : World) (held : Held) (filler : ℕ) (v : WorldWords) → IsWorldSound w
     → w.pending ≡ None → filler < 2 ^ 32 → w.tar ≡ TarUnknown → IsHeldExact w.buffer v.last_returned
-    → IsWorldExact (world_posted held w) v → WorldReturns w (world_posted held w) TarRead filler v
+    → IsWorldExact (world_posted held w) v → WorldGivesBack w (world_posted held w) TarRead filler v
 world_posts_tar_unknown w held filler v sound none small unknown within exact =
     let lost : v.tar ≡ None = subst (λ t. IsTarExact t v.tar) unknown exact.tar in
     let some = world_some w sound in
@@ -399,7 +399,7 @@ pub world_posts_tar : (w : World) (held : Held) (first more index filler : ℕ) 
       tar = TarFrom (first + 4 * index) 0;
       buffer = HeldSeen (checked_near_of (first + 4 * index));
     }) v
-    → WorldReturns w (record (world_posted held w) {
+    → WorldGivesBack w (record (world_posted held w) {
       tar = TarFrom (first + 4 * index) 0;
       buffer = HeldSeen (checked_near_of (first + 4 * index));
     }) TarRead filler v
@@ -453,7 +453,7 @@ or_true false = refl
 pub world_posts_word : (w : World) (held : Held) (filler : ℕ) (v : WorldWords) → IsWorldSound w → w.pending ≡ None
     → filler < 2 ^ 32
     → IsHeldExact w.buffer v.last_returned → IsWorldExact (record (world_posted held w) { buffer = HeldWord }) v
-    → WorldReturns w (record (world_posted held w) { buffer = HeldWord }) ApOtherRead filler v
+    → WorldGivesBack w (record (world_posted held w) { buffer = HeldWord }) ApOtherRead filler v
 world_posts_word w held filler v sound none small within exact =
     let word : ℕ = exact.buffer.0 in
     let some = world_some w sound in
@@ -486,7 +486,7 @@ world_posts_word w held filler v sound none small within exact =
 pub world_posts_error : (w : World) (held : Held) (filler : ℕ) (v : WorldWords) → IsWorldSound w → w.pending ≡ None
     → filler < 2 ^ 32
     → IsHeldExact w.buffer v.last_returned → IsWorldExact (record (world_posted held w) { sticky_error = true }) v
-    → WorldReturns w (record (world_posted held w) { sticky_error = true }) ApOtherRead filler v
+    → WorldGivesBack w (record (world_posted held w) { sticky_error = true }) ApOtherRead filler v
 world_posts_error w held filler v sound none small within exact =
     let some = world_some w sound in
     let before : WorldWords = record v { buffer = v.last_returned; last_returned = some.0.last_returned } in
@@ -522,7 +522,7 @@ pub record WorldPosts (w next : World) (r : Register) (held : Held) : Type 0 whe
   pub last_returned : next.last_returned ≡ held
   pub sound : IsWorldSound w → IsHeldSound held → IsWorldSound next
   pub returns : IsWorldSound w → (filler : ℕ) (v : WorldWords) → filler < 2 ^ 32
-      → IsHeldExact w.buffer v.last_returned → IsWorldExact next v → WorldReturns w next r filler v
+      → IsHeldExact w.buffer v.last_returned → IsWorldExact next v → WorldGivesBack w next r filler v
 
 address_sound : (first more index : ℕ) → index ≤ more → IsTarSound (TarFrom first more)
     → IsTarSound (TarFrom (first + 4 * index) 0)

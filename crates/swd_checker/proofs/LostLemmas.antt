@@ -29,7 +29,7 @@ use Rattle.swd_checker.proofs.NearLemmas.{near_small}
 use Rattle.swd_checker.proofs.ReadLemmas.{world_now_awaits}
 use Rattle.swd_checker.proofs.AddingLemmas.{checked_posted_plain}
 use Rattle.swd_checker.proofs.SettleLemmas.{checked_choice_plain, checked_plain_legal}
-use Rattle.swd_checker.proofs.EffectLemmas.{WorldReturns, WorldPosts, posted_worlds, world_target_lives}
+use Rattle.swd_checker.proofs.EffectLemmas.{WorldGivesBack, WorldPosts, posted_worlds, world_target_lives}
 use Rattle.swd_checker.proofs.EffectLemmas.{world_target_finds}
 use Rattle.swd_checker.proofs.GoesLemmas.{mark_silent, mark_deaf, mark_mute, tx_lost, tx_passes, tx_no_ack}
 use Rattle.swd_checker.proofs.GoesLemmas.{world_target_idle, link_faults, link_silent}
@@ -143,7 +143,7 @@ lost_posts n q r w next plain idle posts = record {
   each = λ sound v exact.
       let last : IsHeldExact w.buffer v.last_returned =
       subst (λ z. IsHeldExact z v.last_returned) posts.last_returned exact.last_returned in
-      let f : WorldReturns w next r 0 v = posts.returns sound 0 v (omega arith) last exact in
+      let f : WorldGivesBack w next r 0 v = posts.returns sound 0 v (omega arith) last exact in
       record {
         before = f.before;
         exact = f.exact;

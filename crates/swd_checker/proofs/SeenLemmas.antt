@@ -35,7 +35,7 @@ use Rattle.swd_checker.proofs.NearLemmas.{near_small, near_of_has, all_places}
 use Rattle.swd_checker.proofs.StatusLemmas.{world_power_found}
 use Rattle.swd_checker.proofs.AddingLemmas.{checked_posted_plain}
 use Rattle.swd_checker.proofs.SettleLemmas.{checked_choice_plain, checked_plain_legal}
-use Rattle.swd_checker.proofs.EffectLemmas.{world_target_lives, world_target_finds, WorldReturns, world_resends}
+use Rattle.swd_checker.proofs.EffectLemmas.{world_target_lives, world_target_finds, WorldGivesBack, world_resends}
 use Rattle.swd_checker.proofs.EffectLemmas.{WorldPosts, posted_worlds}
 use Rattle.swd_checker.proofs.MarkLemmas.{mark_read, mark_read_late}
 use Rattle.swd_checker.proofs.MovesLemmas.{LinkBase, base_okayed, ReadFrom, ReadsTo, read_reaches}
@@ -197,7 +197,7 @@ status_reached link clean tx b r word ok k read is small may e = λ d s debug sy
 -- THE LAST RETURNED VALUE AND THE READ BUFFER
 returns_from : (n : ℕ) (clean ok : Bool) (word : ℕ) (r : Register) (m next : World) (filler : ℕ) (v : WorldWords)
     → is_exempt_register r ≡ false → word < 2 ^ 32 → (ok ≡ false → clean ≡ false)
-    → IsCheckedNear (checked_near_seen word ok) (unwrap_or v.last_returned filler) → WorldReturns m next r filler v
+    → IsCheckedNear (checked_near_seen word ok) (unwrap_or v.last_returned filler) → WorldGivesBack m next r filler v
     → ReadFrom n clean ok word r m next v
 returns_from n clean ok word r m next filler v plain small may near w = record {
   before = w.before;

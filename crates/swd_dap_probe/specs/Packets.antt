@@ -10,7 +10,7 @@ use Rattle.swd_dap_probe.specs.Commands.{dap_command_of, dap_command_number}
 use Rattle.swd_dap_probe.specs.Shapes.{dap_drive_clocks, dap_command_shape, IsDapTaken, IsDapRefused}
 use Rattle.swd_dap_probe.specs.Sequences.{dap_bits, dap_sequences, DapSequencesGo}
 use Rattle.swd_dap_probe.specs.Plain.{dap_plain_reply, dap_settings_after, dap_settings_before, dap_word}
-use Rattle.swd_dap_probe.specs.Transactions.{DapMakes, DapTransaction, dap_abort}
+use Rattle.swd_dap_probe.specs.Transactions.{ProbeMakes, DapTransaction, dap_abort}
 use Rattle.swd_dap_probe.specs.declared.transaction.Answer.{Answer}
 
 -- the most bytes of a packet
@@ -52,7 +52,7 @@ pub record DapSequencesMade {L : Type 0} (clock : SequenceClock L) (bytes told :
 -- DAP_Transfer and DAP_TransferBlock: requests are made, and nothing else
 pub record DapTransacts {L : Type 0} (clock : SequenceClock L) (command : Command) (told : List ℕ) (s t : Processor L) :
     Type 0 where
-  pub makes : DapMakes clock s.settings s.line t.line
+  pub makes : ProbeMakes clock s.settings s.line t.line
   pub after : t ≡ record s { line = t.line; mask = t.mask }
   pub behind : List ℕ
   pub is : told ≡ dap_command_number command ∷ behind

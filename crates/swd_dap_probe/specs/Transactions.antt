@@ -24,7 +24,7 @@ pub record DapSamples {L : Type 0} (clock : SequenceClock L) (sequences : List S
   pub is : number ≡ bits_number levels
 
 -- A request and the turnaround go by, and the three bits of the acknowledgement are sampled.
-pub record DapAsks {L : Type 0} (clock : SequenceClock L) (settings : Settings) (request : Request) (seen : ℕ)
+pub record ProbeAsks {L : Type 0} (clock : SequenceClock L) (settings : Settings) (request : Request) (seen : ℕ)
     (s t : L) : Type 0 where
   pub bits : ℕ
   pub asked : low_bits 8 bits ≡ bits_of_request request
@@ -81,7 +81,7 @@ pub record DapTransaction {L : Type 0} (clock : SequenceClock L) (settings : Set
     (answer : Answer) (s t : L) : Type 0 where
   pub seen : ℕ
   pub m : L
-  pub asks : DapAsks clock settings request seen s m
+  pub asks : ProbeAsks clock settings request seen s m
   pub behind : DapBehind clock settings request word seen answer m t
 
 -- so many transactions of one request, each answered WAIT
@@ -114,6 +114,6 @@ DapMadeGo {L} clock settings (made ∷ more) s t = (m : L)
     × DapPersists clock settings made.request made.word made.answer s m × DapMadeGo clock settings more m t
 
 -- some requests, and nothing else
-pub record DapMakes {L : Type 0} (clock : SequenceClock L) (settings : Settings) (s t : L) : Type 0 where
+pub record ProbeMakes {L : Type 0} (clock : SequenceClock L) (settings : Settings) (s t : L) : Type 0 where
   pub made : List DapMade
   pub go : DapMadeGo clock settings made s t

@@ -2,7 +2,7 @@
 ghost use Rattle.std.specs.Prelude.{◌≤◌, ◌<◌, ◌+◌, ◌*◌, length};
 ghost use Rattle.swd_dap_probe.specs.Shapes.{dap_block_shape};
 ghost use Rattle.swd_dap_probe.specs.Packets.{DapAppends, IsDapReplyOf};
-ghost use Rattle.swd_dap_probe.specs.Transactions.{DapMakes};
+ghost use Rattle.swd_dap_probe.specs.Transactions.{ProbeMakes};
 
 use crate::line::ProbeLine;
 use crate::reply::{Reply, put};
@@ -35,7 +35,7 @@ fn read_block<L: ProbeLine>(
     requires { length words.old.items + 4 * count ≤ 512 }
     ensures room { length words.new.items ≤ length words.old.items + 4 * count }
     ensures count { result.count ≤ count }
-    ensures makes { DapMakes L.clocks settings.now line.old line.new }
+    ensures makes { ProbeMakes L.clocks settings.now line.old line.new }
 {
     let mut value = post(line, settings, request);
     if value != OK {
@@ -64,7 +64,7 @@ fn write_block<L: ProbeLine>(
 ) -> Done
     requires { 4 * count ≤ length bytes.now }
     ensures count { result.count ≤ count }
-    ensures makes { DapMakes L.clocks settings.now line.old line.new }
+    ensures makes { ProbeMakes L.clocks settings.now line.old line.new }
 {
     for place in 0..count {
         let word = word_at(bytes, 4 * usize::from(place));
@@ -93,7 +93,7 @@ pub(crate) fn transfer_block<L: ProbeLine>(
     requires whole { (dap_block_shape request.now).request ≤ length request.now }
     requires room { length reply.old.items + (dap_block_shape request.now).reply ≤ 512 }
     ensures told { DapAppends (IsDapReplyOf 6) (dap_block_shape request.now).reply reply.old.items reply.new.items }
-    ensures makes { DapMakes L.clocks settings.now line.old line.new }
+    ensures makes { ProbeMakes L.clocks settings.now line.old line.new }
 {
     let mut words = Reply::new();
     let count = block_count(request);

@@ -2,7 +2,7 @@
 ghost use Rattle.std.specs.Prelude.{ℕ, ◌≡◌, ◌<◌, ◌^◌, Bool, true, false, []};
 ghost use Rattle.swd_bits.specs.Phases.{data_phase_word};
 ghost use Rattle.swd_sequences.specs.Going.{SequencesGoBy};
-ghost use Rattle.swd_dap_probe.specs.Transactions.{DapAsks, DapBehind, DapSamples, DapTransaction, DapPersists};
+ghost use Rattle.swd_dap_probe.specs.Transactions.{ProbeAsks, DapBehind, DapSamples, DapTransaction, DapPersists};
 ghost use Rattle.swd_dap_probe.specs.Transactions.{dap_take, dap_give, dap_pass, dap_back_off, dap_value};
 ghost use Rattle.swd_dap_probe.specs.Transactions.{dap_word_answer};
 
@@ -61,7 +61,7 @@ impl Answer {
 // Sends a request, and returns the three bits of the acknowledgement.
 fn ask<L: ProbeLine>(line: &mut L, settings: &Settings, request: Request) -> u8
     ensures bound { result < 8 }
-    ensures asks { DapAsks L.clocks settings.now request result line.old line.new }
+    ensures asks { ProbeAsks L.clocks settings.now request result line.old line.new }
 {
     drive(line, u64::from(request.bits()), 8);
     release(line, settings.turnaround);

@@ -2,7 +2,7 @@
 ghost use Rattle.std.specs.Prelude.{◌≡◌, ◌≤◌, ◌<◌, ◌+◌, ◌*◌, [], length, slice_index, IfSome};
 ghost use Rattle.swd_dap_probe.specs.Plain.{dap_word};
 ghost use Rattle.swd_dap_probe.specs.Shapes.{dap_item_shape, dap_shape_by, dap_reads};
-ghost use Rattle.swd_dap_probe.specs.Transactions.{DapMakes};
+ghost use Rattle.swd_dap_probe.specs.Transactions.{ProbeMakes};
 ghost use Rattle.swd_dap_probe.specs.Transfers.{dap_asked_bytes, dap_pending_bytes};
 ghost use Rattle.swd_dap_probe.specs.Packets.{DapAppends, IsDapReplyOf};
 ghost use Rattle.swd_dap_probe.specs.declared.command.Command.{Command};
@@ -108,7 +108,7 @@ pub(crate) fn read_word<L: ProbeLine>(
 ) -> u8
     requires { length words.old.items + 4 ≤ 512 }
     ensures room { length words.new.items ≤ length words.old.items + 4 }
-    ensures makes { DapMakes L.clocks settings.now line.old line.new }
+    ensures makes { ProbeMakes L.clocks settings.now line.old line.new }
 {
     let answer = persist(line, settings, request, 0);
     if let Answer::Okay(word) = answer {
@@ -120,7 +120,7 @@ pub(crate) fn read_word<L: ProbeLine>(
 /// Makes a read if it is one of the access port. The read behind it returns its word. Returns how it was answered.
 #[tactic(auto, using(crate::proofs::TransactionLemmas::makes_none))]
 pub(crate) fn post<L: ProbeLine>(line: &mut L, settings: &Settings, request: Request) -> u8
-    ensures makes { DapMakes L.clocks settings.now line.old line.new }
+    ensures makes { ProbeMakes L.clocks settings.now line.old line.new }
 {
     if request.ap {
         persist(line, settings, request, 0).value()
@@ -139,7 +139,7 @@ fn seek<L: ProbeLine>(
     request: Request,
     wanted: u32,
 ) -> u8
-    ensures makes { DapMakes L.clocks settings.now line.old line.new }
+    ensures makes { ProbeMakes L.clocks settings.now line.old line.new }
 {
     let value = post(line, settings, request);
     if value != OK {
@@ -175,7 +175,7 @@ fn fetch<L: ProbeLine>(line: &mut L, settings: &Settings, run: &mut Run, words: 
     requires { length words.old.items + dap_pending_bytes run.old.pending ≤ 512 }
     ensures none { dap_pending_bytes run.new.pending ≡ 0 }
     ensures room { length words.new.items ≤ length words.old.items + dap_pending_bytes run.old.pending }
-    ensures makes { DapMakes L.clocks settings.now line.old line.new }
+    ensures makes { ProbeMakes L.clocks settings.now line.old line.new }
 {
     match run.pending {
         Pending::Word => {
@@ -199,7 +199,7 @@ fn perform<L: ProbeLine>(
     requires room { length words.old.items + dap_asked_bytes asked ≤ 512 }
     ensures room { length words.new.items + dap_pending_bytes run.new.pending
         ≤ length words.old.items + dap_asked_bytes asked }
-    ensures makes { DapMakes L.clocks settings.now line.old line.new }
+    ensures makes { ProbeMakes L.clocks settings.now line.old line.new }
 {
     match asked {
         Asked::Mask(word) => {
@@ -249,7 +249,7 @@ fn fetch_and_perform<L: ProbeLine>(
     requires { length words.old.items + dap_pending_bytes run.old.pending + dap_asked_bytes asked ≤ 512 }
     ensures room { length words.new.items + dap_pending_bytes run.new.pending
         ≤ length words.old.items + dap_pending_bytes run.old.pending + dap_asked_bytes asked }
-    ensures makes { DapMakes L.clocks settings.now line.old line.new }
+    ensures makes { ProbeMakes L.clocks settings.now line.old line.new }
 {
     let value = fetch(line, settings, run, words);
     if value == OK {
@@ -270,7 +270,7 @@ fn next<L: ProbeLine>(
     requires { length words.old.items + dap_pending_bytes run.old.pending + dap_asked_bytes asked ≤ 512 }
     ensures room { length words.new.items + dap_pending_bytes run.new.pending
         ≤ length words.old.items + dap_pending_bytes run.old.pending + dap_asked_bytes asked }
-    ensures makes { DapMakes L.clocks settings.now line.old line.new }
+    ensures makes { ProbeMakes L.clocks settings.now line.old line.new }
 {
     match read_again(run.pending, asked) {
         Some(request) => read_word(line, settings, request, words),
@@ -288,7 +288,7 @@ fn finish<L: ProbeLine>(
 ) -> u8
     requires { length words.old.items + dap_pending_bytes pending ≤ 512 }
     ensures room { length words.new.items ≤ length words.old.items + dap_pending_bytes pending }
-    ensures makes { DapMakes L.clocks settings.now line.old line.new }
+    ensures makes { ProbeMakes L.clocks settings.now line.old line.new }
 {
     match pending {
         Pending::Nothing => OK,
@@ -314,7 +314,7 @@ fn perform_all<L: ProbeLine>(
     ensures room { 3 + length words.new.items
         ≤ (dap_shape_by Command.Transfer request.now).reply }
     ensures count { result.count ≤ slice_index request.now 2 }
-    ensures makes { DapMakes L.clocks settings.now line.old line.new }
+    ensures makes { ProbeMakes L.clocks settings.now line.old line.new }
 {
     let mut run = Run {
         mask: *mask,
@@ -357,7 +357,7 @@ pub(crate) fn transfer<L: ProbeLine>(
     ensures told { DapAppends (IsDapReplyOf 5)
         (dap_shape_by Command.Transfer request.now).reply
         reply.old.items reply.new.items }
-    ensures makes { DapMakes L.clocks settings.now line.old line.new }
+    ensures makes { ProbeMakes L.clocks settings.now line.old line.new }
 {
     let mut words = Reply::new();
     let done = perform_all(line, settings, mask, request, &mut words);

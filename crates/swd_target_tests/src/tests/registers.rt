@@ -271,8 +271,11 @@ fn row_goes<R: Abort>(rt: &R, alloc: Global, row: &str, case: &str) -> Result<()
 
 // Whether this says something of a row, or nothing: any other line is its name.
 fn is_said(line: &str) -> bool {
-    let words = ["- ", "| ", "over ", "# "];
-    line == "cold" || words.iter().any(|it| line.starts_with(*it))
+    line == "cold"
+        || line.starts_with("- ")
+        || line.starts_with("| ")
+        || line.starts_with("over ")
+        || line.starts_with("# ")
 }
 
 #[test]

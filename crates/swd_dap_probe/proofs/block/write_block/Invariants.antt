@@ -1,6 +1,6 @@
-use Rattle.swd_dap_probe.specs.Transactions.{DapMakes}
+use Rattle.swd_dap_probe.specs.Transactions.{ProbeMakes}
 use Rattle.swd_dap_probe.proofs.block.write_block.Given as goal
 
 -- only requests were made so far
 abbrev pub invariant-loop-place : goal.invariant-loop-place
-invariant-loop-place g l = DapMakes g.L.ProbeLine.clocks l.settings l.fn.line l.line
+invariant-loop-place g l = ProbeMakes g.L.ProbeLine.clocks l.settings l.fn.line l.line

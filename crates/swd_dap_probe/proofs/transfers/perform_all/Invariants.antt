@@ -1,7 +1,7 @@
 use Rattle.std.proofs.Common.{◌≤◌, ◌+◌, ◌-◌, length, get_or, drop}
 use Rattle.swd_dap_probe.specs.declared.shape.Items.TheVariants.{Transfers}
 use Rattle.swd_dap_probe.specs.Shapes.{dap_item_shape, dap_long, dap_most}
-use Rattle.swd_dap_probe.specs.Transactions.{DapMakes}
+use Rattle.swd_dap_probe.specs.Transactions.{ProbeMakes}
 use Rattle.swd_dap_probe.specs.Transfers.{dap_pending_bytes}
 use Rattle.swd_dap_probe.proofs.transfers.perform_all.Given as goal
 
@@ -12,5 +12,5 @@ invariant-loop-place g l = record {
   room : length l.words.items + dap_pending_bytes l.run.pending
       + dap_most (dap_item_shape Transfers) (get_or l.request 2 0 - l.place) l.rest
       ≤ dap_most (dap_item_shape Transfers) (get_or l.request 2 0) (drop 3 l.request);
-  makes : DapMakes g.L.ProbeLine.clocks l.settings l.fn.line l.line;
+  makes : ProbeMakes g.L.ProbeLine.clocks l.settings l.fn.line l.line;
 }
