@@ -343,7 +343,7 @@ IsSizeArgument size (Some text) = (Some size ≡ script_decimal_number text) × 
 
 -- a target that is served by packets of this size, and what the other arguments name
 pub record AreProbeArguments (target : TargetLine) (rows : List Row) : Type 0 where
-  pub target : AreTargetArguments target rows
+  pub arguments : AreTargetArguments target rows
   pub size : ℕ
   pub packets : target.packets ≡ Some size
   pub sized : IsSizeArgument size (first_of (codes "size") rows)
