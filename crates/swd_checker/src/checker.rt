@@ -375,6 +375,8 @@ impl Checker {
         ensures keeps { CheckerKeeps self.old self.new }
         ensures checks { self.old.opening ≡ Opening.Over → CheckerChecks tx.now self.old self.new }
         ensures steps { CheckerSteps tx.now self.old self.new }
+        ensures notes { CheckerNotes place self.old self.new }
+        ensures began { self.new.began ≡ self.old.began }
     {
         let count = self.worlds.kept.len();
         if count <= 1 {

@@ -1,8 +1,9 @@
-use Rattle.std.proofs.Common.{◌∙◌, sym, subst, refl}
+use Rattle.std.proofs.Common.{◌≡◌, ◌∙◌, sym, subst, refl}
 use Rattle.swd_checker.specs.declared.worlds.Worlds.{Worlds}
 use Rattle.swd_checker.specs.Openings.{OpeningHolds}
 use Rattle.swd_checker.specs.Standing.{CheckerChecks}
 use Rattle.swd_checker.specs.Fitting.{CheckerSteps}
+use Rattle.swd_checker.specs.Fitting.{CheckerNotes}
 use Rattle.swd_checker.proofs.checker.Checker.step.Goals as goal
 
 pub returns-else-not-read_alone-clause-checks : goal.returns-else-not-read_alone-clause-checks
@@ -37,3 +38,13 @@ pub returns-then-not-read_alone-clause-steps : goal.returns-then-not-read_alone-
 returns-then-not-read_alone-clause-steps c =
     subst (λ (v : Worlds). CheckerSteps c.args.tx.now (record c.args.self.now { worlds = v }) c.step_any.new.self)
     (c.read_alone.ensures.none c.if-not-read_alone.true) c.step_any.ensures.steps
+
+pub returns-then-not-read_alone-clause-notes : goal.returns-then-not-read_alone-clause-notes
+returns-then-not-read_alone-clause-notes c =
+    subst (λ (v : Worlds). CheckerNotes c.args.place (record c.args.self.now { worlds = v }) c.step_any.new.self)
+    (c.read_alone.ensures.none c.if-not-read_alone.true) c.step_any.ensures.notes
+
+pub returns-then-not-read_alone-clause-began : goal.returns-then-not-read_alone-clause-began
+returns-then-not-read_alone-clause-began c =
+    subst (λ (v : Worlds). c.step_any.new.self.began ≡ (record c.args.self.now { worlds = v }).began)
+    (c.read_alone.ensures.none c.if-not-read_alone.true) c.step_any.ensures.began
