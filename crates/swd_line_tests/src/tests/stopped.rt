@@ -5,7 +5,7 @@ use super::limits;
 use super::memory_server::Untold;
 use std::process::Abort;
 use std::test::Fail;
-use swd_ends::run_remote;
+use swd_ends::{RemoteRan, run_remote};
 use swd_host::End;
 use swd_port::{Cue, Disconnected, Transport, TransportWire};
 use swd_remote::Line;
@@ -137,7 +137,7 @@ fn a_remote_run_stops_where_no_target_answers_so(rt: HostRuntime) {
         let mut sent = Vec::new(rt.alloc());
         let mut report = Vec::new(rt.alloc());
         let mut script = SCRIPT;
-        let ran = run_remote::<Untold, _, _, _, _, _, _, _, _>(
+        let RemoteRan { answer, line, .. } = run_remote::<Untold, _, _, _, _, _, _, _, _>(
             rt.alloc(),
             &mut script,
             Line::characters(row.levels, &mut sent),
@@ -145,7 +145,6 @@ fn a_remote_run_stops_where_no_target_answers_so(rt: HostRuntime) {
             &mut report,
             Records::<Vec<u8>>::none(),
         );
-        let (answer, line) = (ran.answer, ran.line);
         expect_eq_at(&rt, &row.name, &answer, &Ok(finished(row.ended)));
         expect_eq_at(&rt, &row.name, &line.fault, &None);
         expect_eq_at(&rt, &row.name, &report.as_slice(), &row.report);

@@ -12,7 +12,7 @@ use std::cell::Cell;
 use std::io::{Read, Write};
 use std::process::Abort;
 use swd_capture_text::AccessesPrinter;
-use swd_ends::{RemoteFault, run_remote};
+use swd_ends::{RemoteFault, RemoteRan, run_remote};
 use swd_fakes::{CountingWriter, ShortWriter, WatchingReader};
 use swd_host::End;
 use swd_port::{Answer, Story};
@@ -110,7 +110,12 @@ fn a_remote_run_is_traced(rt: HostRuntime) {
         progress: (),
     };
     let mut script = SCRIPT;
-    let ran = run_remote::<Untold, _, _, _, _, _, _, _, _>(
+    let RemoteRan {
+        answer,
+        line,
+        records,
+        ..
+    } = run_remote::<Untold, _, _, _, _, _, _, _, _>(
         rt.alloc(),
         &mut script,
         Line::characters(UNDISTURBED.levels, &mut sent),
@@ -118,9 +123,13 @@ fn a_remote_run_is_traced(rt: HostRuntime) {
         &mut report,
         records,
     );
-    let (answer, line) = (ran.answer, ran.line);
-    let trace = ran.records.trace.expect(&rt, "its writer");
-    let accesses = ran.records.accesses.expect(&rt, "its writer");
+    let Records {
+        trace,
+        accesses,
+        ..
+    } = records;
+    let trace = trace.expect(&rt, "its writer");
+    let accesses = accesses.expect(&rt, "its writer");
     expect_eq(
         &rt,
         &accesses.as_slice(),
@@ -160,7 +169,11 @@ fn a_failed_write_ends_the_session(rt: HostRuntime) {
         let mut report = ShortWriter::new(rt.alloc(), report_room, true);
         let records = only_trace(ShortWriter::new(rt.alloc(), trace_room, false));
         let mut script = SCRIPT;
-        let ran = run_remote::<Untold, _, _, _, _, _, _, _, _>(
+        let RemoteRan {
+            answer,
+            records,
+            ..
+        } = run_remote::<Untold, _, _, _, _, _, _, _, _>(
             rt.alloc(),
             &mut script,
             Line::characters(UNDISTURBED.levels, &mut sent),
@@ -168,8 +181,7 @@ fn a_failed_write_ends_the_session(rt: HostRuntime) {
             &mut report,
             records,
         );
-        let answer = ran.answer;
-        let trace = ran.records.trace.expect(&rt, "its writer");
+        let trace = records.trace.expect(&rt, "its writer");
         let whole = report_room == REPORT.len();
         let written = if whole { trace_room } else { report_room };
         expect_eq(
