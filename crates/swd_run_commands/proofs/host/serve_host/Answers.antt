@@ -7,8 +7,7 @@ returns g c =
     subst (λ p. ServesHost g.D.Device.bus p c.serve_logged-served.result.0 (g.R.Read.remaining c.args.reader.now)
     (g.R.Read.remaining c.serve_logged-served.new.reader) (g.W.Write.contents c.args.writer.now)
     (g.W.Write.contents c.serve_logged-served.new.writer) c.args.pins c.into_pins.result)
-    (sym c.in-Some.is)
-    (
+    (sym c.in-Some.is) (
       c.new-probe.result,
       c.serve_logged-served.result.1,
       c.new-probe.ensures,
