@@ -238,19 +238,17 @@ fn goes(engine: &mut Engine, turn: &str) -> Option<bool> {
 ///   comes to OUTCOME, unfinished, begun N, requests N    what it says
 pub(super) fn all_go<R: Abort>(rt: &R, rows: &str) {
     let mut engine = Engine::new(8);
-    let mut name = "";
     for line in rows
         .lines()
         .filter(|it| !it.starts_with("#") && !it.starts_with("= "))
     {
         let Some(turns) = line.strip_prefix("- ") else {
-            name = line;
             engine = Engine::new(8);
             continue;
         };
         for turn in turns.split(", ") {
             for part in parts(rows, turn).split(", ") {
-                expect_at(rt, &(name, part), goes(&mut engine, part) == Some(true));
+                expect_at(rt, &(line, part), goes(&mut engine, part) == Some(true));
             }
         }
     }
