@@ -1,5 +1,5 @@
 //! Performs `swd run --remote`: a run at a remote target on the standard streams.
-ghost use Rattle.std.specs.Prelude.{◌≡◌, IfErr};
+ghost use Rattle.std.specs.Prelude.{◌≡◌, IfErr, false};
 ghost use Rattle.swd_capture_text.specs.Captures.{accesses_printed};
 ghost use Rattle.swd_script.specs.Laws.{IsScriptRunnable};
 ghost use Rattle.swd_script.specs.Readers.{read_script_meaning};
