@@ -36,7 +36,10 @@ class SimulatedProbe:
     def take(self, packet: bytes) -> bytes:
         """The reply to a packet."""
         self.to.write(struct.pack("<H", len(packet)) + packet)
-        (length,) = struct.unpack("<H", self.of.read(2))
+        head = self.of.read(2)
+        if len(head) < 2:
+            raise OSError("swd probe ended")
+        (length,) = struct.unpack("<H", head)
         return self.of.read(length)
 
     def __enter__(self) -> SimulatedProbe:
