@@ -1,9 +1,10 @@
 //! Scripts and plans on worked texts, for every cut, and with memory refused.
 use super::expect::{expect_eq, expect_eq_at};
 use linked_list_allocator::LocalHeap;
-use std::alloc::{Allocator, Global};
+use std::alloc::{AllocError, Allocator, Global};
 use std::fmt;
 use std::fmt::{Display, Formatter};
+use std::process::Abort;
 use std::test::Fail;
 use swd_io::Consumer;
 use swd_port::{Access, Mark};
@@ -166,16 +167,35 @@ const SCRIPTS: &[(&str, &[u8], &str)] = &[
     ),
 ];
 
+// What is shown of a script.
+fn as_text(alloc: Global, script: &Script<Global>) -> Result<String, AllocError> {
+    format!(in alloc; "{}", Shown { script })
+}
+
+// Compares what is shown of a script, which was cut at this place.
+fn is_said<R: Abort>(
+    rt: &R,
+    alloc: Global,
+    at: (&str, usize),
+    script: &Script<Global>,
+    said: &str,
+) {
+    match as_text(alloc, script) {
+        Ok(found) => expect_eq_at(rt, &at, &found.as_str(), &said),
+        Err(fault) => panic!(rt; "{}, cut at {}: {fault:?}", at.0, at.1),
+    }
+}
+
 #[test]
-fn a_script_is_read_however_it_is_cut(rt: HostRuntime) -> Result<(), Fail> {
-    for (name, text, wanted) in SCRIPTS {
+fn a_script_is_read_however_it_is_cut(rt: HostRuntime) {
+    for (name, text, said) in SCRIPTS {
         for cut in 0..text.len().saturating_add(1) {
-            let script = script_in(rt.alloc(), text, cut)?;
-            let found = format!(in rt.alloc(); "{}", Shown { script: &script })?;
-            expect_eq_at(&rt, &(name, cut), &found.as_str(), wanted);
+            match script_in(rt.alloc(), text, cut) {
+                Ok(script) => is_said(&rt, rt.alloc(), (*name, cut), &script, *said),
+                Err(fault) => panic!(rt; "{name}, cut at {cut}: {fault:?}"),
+            }
         }
     }
-    Ok(())
 }
 
 // Scripts of long calls: of each call how many accesses it has, and the last of them.
