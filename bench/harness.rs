@@ -2,9 +2,9 @@
 //! `harness NAME [--input FILE] OURS.. -- BASELINE..`. Both have to write the same, which a first run of each shows;
 //! it isn't counted, nor is what the later runs write, which goes to /dev/null.
 //!
-//! A pair is one turn of each. A turn runs its command as often as takes a second or so, and who goes first
-//! changes from pair to pair, so what disturbs the one disturbs the other. The ratio of a pair is our processor time over
-//! the baseline's; printed are the median of the ratios and their quartiles. The environment can set the number of pairs,
+//! A pair is one turn of each. A turn runs its command as often as takes a second or so, and who goes first changes
+//! from pair to pair, so what disturbs the one disturbs the other. The ratio of a pair is our processor time over the
+//! baseline's; printed are the median of the ratios and their quartiles. The environment can set the number of pairs,
 //! at least fifteen, by PAIRS, and the seconds of a turn by SECONDS.
 use std::env;
 use std::fs::File;
@@ -114,7 +114,8 @@ fn filled(mut reader: impl Read, piece: &mut [u8]) -> io::Result<usize> {
 /// Whether both write the same, as they run side by side. It is held a piece at a time: a child's figure of memory
 /// begins with ours.
 fn write_the_same(ours: &Program, theirs: &Program) -> io::Result<bool> {
-    let mut children = [ours.command()?.stdout(Stdio::piped()).spawn()?, theirs.command()?.stdout(Stdio::piped()).spawn()?];
+    let begun = |program: &Program| program.command()?.stdout(Stdio::piped()).spawn();
+    let mut children = [begun(ours)?, begun(theirs)?];
     let mut pieces = [vec![0; 65536], vec![0; 65536]];
     let mut same = true;
     loop {

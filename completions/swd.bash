@@ -29,7 +29,7 @@ _swd() {
         words='--help -h'
         ;;
     decode)
-        words='--places --names --count --accesses --made --resync --overrun --help -h'
+        words='--places --names --count --accesses --made --rest --resync --overrun --help -h'
         ;;
     encode)
         words='--help -h'
@@ -56,7 +56,7 @@ _swd() {
         words='--halt --script --tries --resume --trace --remote --probe --speed --framed --help -h'
         ;;
     conform)
-        words='--remote --probe --speed --framed --plain --hole --clean --help -h'
+        words='--remote --probe --speed --framed --plain --hole --steps --clean --help -h'
         ;;
     load)
         words='--format --tries --resume --report --progress --remote --probe --speed --framed --check --memory --base --plan --bursts --help -h'
@@ -80,7 +80,7 @@ _swd() {
         ;;
     esac
     case $before in
-    --accesses | --log | --memory | --plan | --probe | --report | --trace)
+    --accesses | --log | --memory | --plan | --probe | --report | --steps | --trace)
         mapfile -t COMPREPLY < <(compgen -f -- "$word")
         return
         ;;

@@ -26,6 +26,7 @@ complete -c swd -n '__fish_seen_subcommand_from decode' -l names -d 'Print names
 complete -c swd -n '__fish_seen_subcommand_from decode' -l count -d 'Count each kind of item, with no listing'
 complete -c swd -n '__fish_seen_subcommand_from decode' -l accesses -d 'List the accesses of memory, with their effect'
 complete -c swd -n '__fish_seen_subcommand_from decode' -l made -d 'With --accesses: the target begins in its reset state'
+complete -c swd -n '__fish_seen_subcommand_from decode' -l rest -d 'With --accesses: SELECT is 0, nothing is pending at first'
 complete -c swd -n '__fish_seen_subcommand_from decode' -l resync -d 'Read a capture that begins in mid-session or lost bits'
 complete -c swd -n '__fish_seen_subcommand_from decode' -l overrun -d 'With --resync, WAIT and FAULT have a data phase at first'
 complete -c swd -n '__fish_seen_subcommand_from decode' -s h -l help -d 'Print help'
@@ -62,7 +63,7 @@ complete -c swd -n '__fish_seen_subcommand_from probe' -l plan -r -F -d 'Inject 
 complete -c swd -n '__fish_seen_subcommand_from probe' -l log -r -F -d 'Write the log to FILE (overwrites it)'
 complete -c swd -n '__fish_seen_subcommand_from probe' -l trace -r -F -d 'Write the trace to FILE (overwrites it)'
 complete -c swd -n '__fish_seen_subcommand_from probe' -l idr -x -d 'IDR of the access port, hexadecimal; else 0'
-complete -c swd -n '__fish_seen_subcommand_from probe' -l size -x -d 'The most bytes of a packet, 64 to 512; else 64'
+complete -c swd -n '__fish_seen_subcommand_from probe' -l size -x -d 'Packet size that the host is told, 64 to 512; else 64'
 complete -c swd -n '__fish_seen_subcommand_from probe' -s h -l help -d 'Print help'
 complete -c swd -n '__fish_seen_subcommand_from draw' -F
 complete -c swd -n '__fish_seen_subcommand_from draw' -l items -x -d 'The most items that are drawn, from 1 to 1000 [default: 200]'
@@ -102,6 +103,7 @@ complete -c swd -n '__fish_seen_subcommand_from conform' -l speed -x -d 'With --
 complete -c swd -n '__fish_seen_subcommand_from conform' -l framed -d 'With --probe: each packet has its length before it'
 complete -c swd -n '__fish_seen_subcommand_from conform' -l plain -x -d 'Memory to overwrite: WORDS words, 80 or more'
 complete -c swd -n '__fish_seen_subcommand_from conform' -l hole -x -d 'There is no memory at ADDR, hexadecimal'
+complete -c swd -n '__fish_seen_subcommand_from conform' -l steps -r -F -d 'Send the steps of FILE in place of these requests'
 complete -c swd -n '__fish_seen_subcommand_from conform' -l clean -d 'Nothing is damaged or lost, as in a simulation'
 complete -c swd -n '__fish_seen_subcommand_from conform' -s h -l help -d 'Print help'
 complete -c swd -n '__fish_seen_subcommand_from load' -F

@@ -2,10 +2,10 @@
  *
  *     swd-line [--timeout S] HOST:PORT | TTY[,BAUD] | IN,OUT -- PROGRAM ARGUMENT ..
  *
- * Each byte that the program writes goes to the line, and each byte of the line to the program. A line whose other end is
- * gone, or that owes an answer for S seconds, is closed: the program then reads the end of its input. swd-line ends with
- * the program's status; with 128 + N where signal N ended it; with 2 where the line can't be opened or another swd-line
- * has the terminal or IN in use, and 127 where the program can't be started. A line owes one byte for each R
+ * Each byte that the program writes goes to the line, and each byte of the line to the program. A line whose other end
+ * is gone, or that owes an answer for S seconds, is closed: the program then reads the end of its input. swd-line ends
+ * with the program's status; with 128 + N where signal N ended it; with 2 where the line can't be opened or another
+ * swd-line has the terminal or IN in use, and 127 where the program can't be started. A line owes one byte for each R
  * and c that was sent to it, the reads of TDO and SWDIO. */
 #define _GNU_SOURCE
 #include <errno.h>
@@ -130,7 +130,8 @@ static int open_socket(const char *name, long long timeout)
             why = errno;
             continue;
         }
-        why = connect(made, at->ai_addr, at->ai_addrlen) && errno != EINPROGRESS ? errno : connected(made, name, timeout);
+        why = connect(made, at->ai_addr, at->ai_addrlen) && errno != EINPROGRESS ? errno
+                                                                                 : connected(made, name, timeout);
         if (!why) {
             freeaddrinfo(all);
             setsockopt(made, IPPROTO_TCP, TCP_NODELAY, &one, sizeof one);

@@ -5,17 +5,26 @@ const RULES = @RULES@;  // the names of swd_rule_name in include/swd.h
 const STARTS = { made: 1, rest: 2, any: 3 };     // SWD_MADE and the others of include/swd.h
 const FITS = 1, BREAKS = 2, CROWDED = 3;
 const REFUSED_BITS = 13, GAP_BITS = 35;          // of WAIT and FAULT; stray bits that are a gap, as in swd_check
+const ACKS = [1, 2, 4];                          // OK, WAIT and FAULT
+
+// The fields of struct swd_check, in their order: those of a world first.
+const CHECK_FIELDS = ("faults buffer_places buffer_word buffer_kind last_places last_word last_kind tar_first tar_more "
+  + "tar_known reset sticky_error write_error read_ok debug system mem_ap bank0 increments pending awaits "
+  + "id_places id_word id_kind began faults_before gaps broken crowded select count overfull opening clean has_began "
+  + "in_gap stray rule is_crowded").split(" ");
 
 // The library's checker over a struct in the module's memory.
 function checker(lib, start, clean) {
   const { exports: x, bytes, words, inItem, itemAt: item, free } = lib, view = new DataView(bytes.buffer);
   x.swd_check_layout(BigInt(free));
   const end = layoutEnd(words, free), [worldSize, checkSize, size] = [32, 24, 16].map(it => words[end - it >> 2]);
-  const verdictAt = free + (worldSize + 7 & ~7) + (checkSize + 7 & ~7);
+  const checkAt = free + (worldSize + 7 & ~7), verdictAt = checkAt + (checkSize + 7 & ~7);
+  const { count } = offsets(bytes.slice(checkAt, checkAt + checkSize), CHECK_FIELDS);
   const at = offsets(bytes.slice(verdictAt, verdictAt + size),
     ["place", "began", "faults", "gaps", "kind", "rule", "has_began"]);
   const check = BigInt(free), verdict = free + (checkSize + 15 & ~15);
   const number = field => Number(view.getBigUint64(field, true));
+  let isAnswered = false;  // whether the target acknowledged a request that was checked, as in swd_check
   if (!x.swd_check_new(check, start, clean))
     throw Error("the library refused to check");
   return {
@@ -29,13 +38,14 @@ function checker(lib, start, clean) {
         bytes[item + inItem[name]] = fields[name] || 0;
       if (!x.swd_check_watch(check, BigInt(item), BigInt(place)))
         throw Error(`the library refused to check the item at ${place}`);
+      isAnswered ||= fields.kind === TRANSACTION && ACKS.includes(fields.ack) && bytes[free + count] > 0;
     },
     verdict() {
       if (!x.swd_check_verdict(check, BigInt(verdict)))
         throw Error("the library has no verdict");
       const field = name => number(verdict + at[name]), byte = name => bytes[verdict + at[name]];
       return { kind: byte("kind"), rule: byte("rule"), begun: byte("has_began"), place: field("place"),
-        began: field("began"), faults: field("faults"), gaps: field("gaps") };
+        began: field("began"), faults: field("faults"), gaps: field("gaps"), isAnswered };
     },
   };
 }
@@ -71,9 +81,17 @@ function requestOf(head) {
   return 0x81 | head << 1 | parity << 5;
 }
 
-// Gives the items of a record to a checker.
-function watchRecord(check, items, record) {
-  const { capture } = items, kind = items.kind[record], place = items.from[record];
+// Whether a transaction belongs to a gap: a skip follows it, with nothing or idle cycles between.
+function isInGap(items, record) {
+  let next = record + 1;
+  while (next < items.records && items.kind[next] === IDLE)
+    next++;
+  return next < items.records && items.kind[next] === SKIP;
+}
+
+// Gives the items of a record, as one of this kind, to a checker.
+function watchRecord(check, items, record, kind) {
+  const { capture } = items, place = items.from[record];
   const length = items.from[record + 1] - place, watch = (fields, behind = 0) => check.watch(fields, place + behind);
   if (kind === TRANSACTION) {
     const answer = items.answer[record], ack = answer & 7;
@@ -92,12 +110,15 @@ function watchRecord(check, items, record) {
 }
 
 // Returns the verdict on the items, {kind, place, line}, with the line of `swd check` up to the rule's name; null as
-// soon as `stopped()`. Where the session leaves the model the check begins anew at the next line reset, as behind a gap.
+// soon as `stopped()`. Where the session leaves the model the check begins anew at the next line reset, as behind a
+// gap.
 async function judge(lib, items, { start, clean, overrun }, stopped) {
   const check = checker(lib, STARTS[start], Number(clean)), detection = new Overrun(overrun, clean);
-  let outside = -1, isOutside = false, until = performance.now() + 40;
+  let outside = -1, isOutside = false, isHidden = false, until = performance.now() + 40;
   for (let record = 0; record < items.records; record++) {
-    const place = items.from[record], kind = items.kind[record];
+    const place = items.from[record], is = items.kind[record];
+    isHidden = is === TRANSACTION ? isInGap(items, record) : isHidden && is === IDLE;
+    const kind = isHidden ? SKIP : is;
     const leaves = kind === TRANSACTION
       && detection.leaves(items.head[record], items.answer[record], items.word[record]);
     isOutside = isOutside && kind !== RESET;
@@ -107,7 +128,7 @@ async function judge(lib, items, { start, clean, overrun }, stopped) {
       for (let i = 0; i < GAP_BITS; i++)
         check.watch({ kind: JUNK }, place);
     } else if (!isOutside || kind !== TRANSACTION) {
-      watchRecord(check, items, record);
+      watchRecord(check, items, record, kind);
     }
     if (record % 64 === 0 && performance.now() > until) {
       await pause();
@@ -116,8 +137,9 @@ async function judge(lib, items, { start, clean, overrun }, stopped) {
       until = performance.now() + 40;
     }
   }
-  const { kind, place, rule, begun, began, faults, gaps } = check.verdict(), isBroken = kind === BREAKS;
-  const crowded = kind === CROWDED ? place : isBroken || begun ? -1 : 0;
+  const { kind, place, rule, begun, began, faults, gaps, isAnswered } = check.verdict(), isBroken = kind === BREAKS;
+  const isChecked = begun && (isAnswered || outside >= 0);
+  const crowded = kind === CROWDED ? place : isBroken || isChecked ? -1 : 0;
   if (isBroken)
     return { kind: "breaks", place, line: `breaks @${place} ${items.line(items.at(place))}: ${RULES[rule]}` };
   if (crowded >= 0 && (outside < 0 || crowded < outside))

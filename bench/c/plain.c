@@ -1,4 +1,5 @@
-/* The baseline: the host of bench/run/host.rs as C, without its blocks. Written for measurements, and proved in nothing. */
+/* The baseline: the host of bench/run/host.rs as C, without its blocks. Written for measurements, and proved in
+ * nothing. */
 #include "workload.h"
 
 /* The requests of the opening and of an access, in order. */

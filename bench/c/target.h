@@ -1,6 +1,6 @@
 /*
- * The simulated target of bench/run/host.rs, as C: a debug port with a memory access port, at the end of a wire. Written
- * for measurements, and proved in nothing.
+ * The simulated target of bench/run/host.rs, as C: a debug port with a memory access port, at the end of a wire.
+ * Written for measurements, and proved in nothing.
  */
 #ifndef BENCH_TARGET_H
 #define BENCH_TARGET_H

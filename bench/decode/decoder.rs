@@ -1,9 +1,9 @@
 //! A plain-Rust streaming decoder of traces: what `swd decode` is measured against, as fast as we could write it in
 //! safe Rust without a library. Written for this bench, and proved in nothing.
 //!
-//! Characters are taken eight at once where all of them are digits. Bits that are undecided stand in one number, and a run of
-//! equal ones beside it is counted. Where a transaction of 46 characters stands in the text, it is taken whole. A line has a
-//! known length and is made from tables, right in the block that goes out.
+//! Characters are taken eight at once where all of them are digits. Bits that are undecided stand in one number, and a
+//! run of equal ones beside it is counted. Where a transaction of 46 characters stands in the text, it is taken whole.
+//! A line has a known length and is made from tables, right in the block that goes out.
 use std::io::{self, BufRead, Write};
 
 pub const SWITCH: u64 = 0xe79e;
@@ -320,8 +320,8 @@ impl<W: Write> Decoder<W> {
         self.lines.flush()
     }
 
-    /// Takes a whole transaction at the front of a text, where one stands there and nothing but idle cycles comes before it,
-    /// and says how many characters it has.
+    /// Takes a whole transaction at the front of a text, where one stands there and nothing but idle cycles comes
+    /// before it, and says how many characters it has.
     #[inline]
     fn take_whole(&mut self, text: &[u8]) -> io::Result<Option<usize>> {
         if self.len > 0 || self.mode != Mode::Synced || self.run > 0 && self.one {

@@ -18,8 +18,9 @@ fn push(text: &mut Vec<u8>, bits: u64, len: u32) {
     text.extend((0..len).map(|i| b'0' + (bits >> i & 1) as u8));
 }
 
-/// Adds a transaction; with `port` 1 one of the access port, with 0 one of either. Those of the access port leave overrun
-/// detection as it is, so that a trace of them is read alike as a capture: without a data phase after WAIT and FAULT.
+/// Adds a transaction; with `port` 1 one of the access port, with 0 one of either. Those of the access port leave
+/// overrun detection as it is, so that a trace of them is read alike as a capture: without a data phase after WAIT and
+/// FAULT.
 fn transaction(random: &mut Random, text: &mut Vec<u8>, port: u64) {
     let asked = random.next() & 15 | port;
     let read = asked >> 1 & 1 == 1;

@@ -1,7 +1,7 @@
 //! Both ends of a line of remote_bitbang characters in plain Rust, with the words of `swd`: `ends target SCRIPT` and
-//! `ends run SCRIPT --remote --bursts --report FILE`, on the standard streams. Beside them `ends make FOLDER` writes the scripts,
-//! `ends flushes SCRIPT HOST..` counts how often a host sends, and `ends rate WORDS COMMAND..` how many words a second
-//! a command does.
+//! `ends run SCRIPT --remote --bursts --report FILE`, on the standard streams. Beside them `ends make FOLDER` writes
+//! the scripts, `ends flushes SCRIPT HOST..` counts how often a host sends, and `ends rate WORDS COMMAND..` how many
+//! words a second a command does.
 #[allow(dead_code)]
 #[path = "../cycles/clocked.rs"]
 mod clocked;

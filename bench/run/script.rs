@@ -33,7 +33,9 @@ fn script_of(text: &str) -> Result<Script, Box<dyn std::error::Error>> {
         let command = (words.next(), words.next(), words.next(), words.next());
         match command {
             (None, ..) => {}
-            (Some("memory"), Some(base), Some(count), None) => (script.base, script.words) = (hex(base)?, count.parse()?),
+            (Some("memory"), Some(base), Some(count), None) => {
+                (script.base, script.words) = (hex(base)?, count.parse()?)
+            }
             (Some("room"), Some(room), None, None) => script.room = room.parse()?,
             (Some("r"), Some(addr), None, None) => script.accesses.push(Access::Read(hex(addr)?)),
             (Some("w"), Some(addr), Some(word), None) => script.accesses.push(Access::Write(hex(addr)?, hex(word)?)),

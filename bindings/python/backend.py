@@ -1,12 +1,12 @@
 """Builds the wheel of the package swd, with the standard library alone, so that `pip install .` needs no network.
 
-The wheel has the shared library in it: the one that SWD_LIBRARY names, or the folder swd has as libswd_c.so, or in a clone
-of the repository the one of `./swd --library`, which is compiled in about a minute where there is none. Its tag is what the
-library says: manylinux of the glibc that it needs, or linux where it needs another library. Of a library that isn't proved
-the version says so: 0.1.0+unproved.
+The wheel has the shared library in it: the one that SWD_LIBRARY names, or the folder swd has as libswd_c.so, or in a
+clone of the repository the one of `./swd --library`, which is compiled in about a minute where there is none. Its tag
+is what the library says: manylinux of the glibc that it needs, or linux where it needs another library. Of a library
+that isn't proved the version says so: 0.1.0+unproved.
 
-Where SWD_LIBRARY is empty, or the system's loader finds libswd_c.so.0, the wheel has the package alone, which searches the
-library when it is used. The same files give the same bytes.
+Where SWD_LIBRARY is empty, or the system's loader finds libswd_c.so.0, the wheel has the package alone, which searches
+the library when it is used. The same files give the same bytes.
 
 `python3 backend.py FOLDER` writes the wheel to a folder, and prints its name."""
 import base64
@@ -135,8 +135,8 @@ def _needed(library: bytes) -> List[str]:
 
 
 def _platform(library: bytes) -> str:
-    """The tag of the wheels that a library fits: manylinux of the glibc that it needs. Where it isn't for Linux, or needs
-    another library, that of this machine."""
+    """The tag of the wheels that a library fits: manylinux of the glibc that it needs. Where it isn't for Linux, or
+    needs another library, that of this machine."""
     here = re.sub(r"[^A-Za-z0-9]", "_", sysconfig.get_platform())
     machine = MACHINES.get(struct.unpack_from("<H", library, 18)[0]) if library[:6] == b"\x7fELF\2\1" else None
     if machine is None:

@@ -1,6 +1,7 @@
 """What the parts of a capture show of the target's memory, by the rules of docs/PROTOCOL.md and `swd decode --help`.
 
-A line is a place, `r` or `w` or `gap`, an address and a word, or None where these are unknown, and `took`, `may` or `not`.
+A line is a place, `r` or `w` or `gap`, an address and a word, or None where these are unknown, and `took`, `may` or
+`not`.
 """
 from dataclasses import dataclass, replace
 from typing import NamedTuple, Optional
@@ -108,7 +109,8 @@ class Request(NamedTuple):
 
 
 def effect(select, request):
-    """What a request does that is answered OK: ("reads"|"writes"|"may read"|"may write"|"elsewhere"|"other", register)."""
+    """What a request does that is answered OK: ("reads"|"writes"|"may read"|"may write"|"elsewhere"|"other",
+    register)."""
     port, address, reads = request
     if port == "dp":
         return ("writes", "select") if not reads and address == "8" else ("other", None)
@@ -167,7 +169,8 @@ def after_confirm(observer, request, word, place):
     elif kind == "may write":
         if register == "drw":
             lines.append(Line(place, "w", now.tar, word if now.increments is not None else None, "may"))
-        now = replace(now, increments=None if register == "csw" else now.increments, tar=None if register != "csw" else now.tar)
+        is_csw = register == "csw"
+        now = replace(now, increments=None if is_csw else now.increments, tar=now.tar if is_csw else None)
     elif kind == "reads":
         now = replace(now, begun=Begun(True, None, place))
     elif kind == "writes":

@@ -230,9 +230,9 @@ def other_random(rng, session, others):
 
 
 KINDS = (as_recorded, begins_anywhere, one_bit_dropped, one_bit_doubled, one_bit_changed, one_to_five_bits,
-         one_to_five_bits_and_cut, bursts_of_noise, glitches_of_the_clock, random_turnarounds, turnarounds_of_two_clocks,
-         two_spliced, clocks_lost_now_and_then, inverted, reversed_in_time, swapped, other_spi, other_uart, other_jtag,
-         other_i2c, other_random)
+         one_to_five_bits_and_cut, bursts_of_noise, glitches_of_the_clock, random_turnarounds,
+         turnarounds_of_two_clocks, two_spliced, clocks_lost_now_and_then, inverted, reversed_in_time, swapped,
+         other_spi, other_uart, other_jtag, other_i2c, other_random)
 
 
 # ---- what is found
@@ -273,7 +273,8 @@ def listing(swd, bits, words):
     command = [swd, "decode", "--places", "--resync", *words]
     done = subprocess.run(command, input=text, capture_output=True, text=True, check=True)
     rows = (row.split() for row in done.stdout.splitlines())
-    return {(int(row[0][1:]), " ".join(row[1:5] if row[4] == "none" else row[1:])) for row in rows if row[1] in ("dp", "ap")}
+    return {(int(row[0][1:]), " ".join(row[1:5] if row[4] == "none" else row[1:])) for row in rows
+            if row[1] in ("dp", "ap")}
 
 
 def read_here(bits, words):
@@ -326,4 +327,5 @@ def table(seed, with_openocd=False):
 
 
 def show(name, over, total):
-    print(f"{name:28} {'yes' if over else 'no':8} {total[0]:7} {total[1]:7} {total[0] - total[1]:7} {total[2]:8}", flush=True)
+    true, found, invented = total
+    print(f"{name:28} {'yes' if over else 'no':8} {true:7} {found:7} {true - found:7} {invented:8}", flush=True)

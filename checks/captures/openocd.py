@@ -1,5 +1,5 @@
-"""Sessions of an unmodified OpenOCD 0.12.0, connected as by examples/openocd/run. Wants openocd and a C compiler; OPENOCD
-and CC name others.
+"""Sessions of an unmodified OpenOCD 0.12.0, connected as by examples/openocd/run. Wants openocd and a C compiler;
+OPENOCD and CC name others.
 """
 import contextlib
 import os
@@ -42,7 +42,8 @@ def connected(room, commands):
 
 
 def any_command(room, rng, address):
-    """A command of OpenOCD: words, halves and bytes, at an address by this function, a file either way, a new connection."""
+    """A command of OpenOCD: words, halves and bytes, at an address by this function, a file either way, a new
+    connection."""
     at = address(rng)
     pick = rng.random()
     if pick < 0.25:

@@ -103,7 +103,8 @@ def is_begun(bits, at, phases):
 
 
 def goes_on(bits, at, soundly=False):
-    """Behind any zeros: the end, fifty ones, the beginning of either, or a transaction, which is sound if that is asked."""
+    """Behind any zeros: the end, fifty ones, the beginning of either, or a transaction, which is sound if that is
+    asked."""
     at = past(bits, at)
     found = transaction(bits, at)
     if at == len(bits) or bits.startswith(ONES, at):

@@ -14,7 +14,8 @@ OPENING = [(0, 1, 0, 0), (0, 0, 0, 0x1E), (0, 0, 8, 0), (0, 0, 4, 0x50000000), (
 
 @dataclass
 class Session:
-    """Bits, the transactions that were sent (place, length, line), whether overrun detection is used, the target's log."""
+    """Bits, the transactions that were sent (place, length, line), whether overrun detection is used, the target's
+    log."""
     bits: list
     truth: list
     over: bool
@@ -182,7 +183,8 @@ def run(rng, swd, room):
     script, plan = [f"memory {BASE:x} 2048"], []
     while len(script) < 120:
         addr = BASE + 4 * rng.randrange(2040)
-        script.append(rng.choice([f"r {addr:x}", f"w {addr:x} {rng.getrandbits(32):x}", f"rn {addr:x} {rng.randrange(1, 8)}"]))
+        lines = [f"r {addr:x}", f"w {addr:x} {rng.getrandbits(32):x}", f"rn {addr:x} {rng.randrange(1, 8)}"]
+        script.append(rng.choice(lines))
     chance = rng.choice([0, 0.02, 0.08, 0.2])
     for _ in range(600):
         plan.append("." if rng.random() > chance else rng.choice(["wait", "wait", f"flip {rng.randrange(33)}"]))

@@ -1,7 +1,8 @@
-"""A clocked target with overrun detection, which `swd target` hasn't: of IHI 0031, B4 and B2, as far as a debugger sees it.
+"""A clocked target with overrun detection, which `swd target` hasn't: of IHI 0031, B4 and B2, as far as a debugger sees
+it.
 
-`Target.cycle(drive)` is one clock: `drive` is the host's bit, or None where the host leaves the line alone. The answer is the
-level of the line.
+`Target.cycle(drive)` is one clock: `drive` is the host's bit, or None where the host leaves the line alone. The answer
+is the level of the line.
 """
 OK, WAIT, FAULT = 1, 2, 4
 IDLE, REQUEST, LOST, RESET, TURN, ACK, READ, READ_TURN, WRITE_TURN, WRITE, PASS = range(11)
@@ -14,7 +15,8 @@ def odd(word):
 
 
 class Marks:
-    """What happens to requests: each is answered WAIT, or has a bit of its data changed, or isn't heard, with these chances."""
+    """What happens to requests: each is answered WAIT, or has a bit of its data changed, or isn't heard, with these
+    chances."""
 
     def __init__(self, rng, wait=0.0, flip=0.0, deaf=0.0, mute=0.0):
         self.rng, self.chances = rng, (("wait", wait), ("flip", flip), ("deaf", deaf), ("mute", mute))

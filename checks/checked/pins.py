@@ -1,7 +1,7 @@
 """A server of remote_bitbang for serial wire, with a target of target.py behind the pins.
 
-`Pins(target, waits).serve(read, write)` answers what `read()` returns, bytes at a time, by `write(bytes)`, up to `Q` or the end.
-`serve_run(run)` does so at the standard streams of a program.
+`Pins(target, waits).serve(read, write)` answers what `read()` returns, bytes at a time, by `write(bytes)`, up to `Q` or
+the end. `serve_run(run)` does so at the standard streams of a program.
 """
 import os
 

@@ -1,9 +1,10 @@
 """Decides whether a trace fits the port model: the rules of docs/PROTOCOL.md as a program of its own.
 
-It keeps all *worlds* in which the target may be. A world is a tuple of fields, and a word in it is `ANY` (any word, anew
-at each use), `SOME` (one word, not known), a pair of a mask and the bits under it, or a set of words. An item is a tuple:
-("reset", ones), ("idle", zeros), ("switch",), ("junk", bit), ("cut", bits), or ("tx", port, address, direction, end, word)
-as a listing has them, with `ap` or `dp`, 0, 4, 8 or 12, `read` or `write`, and `ok`, `bad`, `wait`, `fault` or `none`.
+It keeps all *worlds* in which the target may be. A world is a tuple of fields, and a word in it is `ANY` (any word,
+anew at each use), `SOME` (one word, not known), a pair of a mask and the bits under it, or a set of words. An item is a
+tuple: ("reset", ones), ("idle", zeros), ("switch",), ("junk", bit), ("cut", bits), or ("tx", port, address, direction,
+end, word) as a listing has them, with `ap` or `dp`, 0, 4, 8 or 12, `read` or `write`, and `ok`, `bad`, `wait`, `fault`
+or `none`.
 """
 from collections import namedtuple
 from itertools import product
@@ -12,11 +13,13 @@ MOST = 64
 STRAY = 34
 COMPARED = 0xF00000E0
 ANY, SOME = "any", "some"
-World = namedtuple("World", "reset sticky damaged readok debug system memap bank0 single pending awaits tar buffer last")
+World = namedtuple(
+    "World", "reset sticky damaged readok debug system memap bank0 single pending awaits tar buffer last"
+)
 MADE = World("none", False, False, False, "off", "off", True, True, False, None, False, (0, 0), ANY, ANY)
 LIVE = MADE._replace(reset="live", tar=None)
-DP = {("read", 0): "DPIDR", ("write", 0): "ABORT", ("read", 8): "RESEND", ("write", 8): "SELECT", ("read", 12): "RDBUFF",
-      ("write", 12): "nothing"}
+DP = {("read", 0): "DPIDR", ("write", 0): "ABORT", ("read", 8): "RESEND", ("write", 8): "SELECT",
+      ("read", 12): "RDBUFF", ("write", 12): "nothing"}
 AP = {("read", 0): "CSW", ("write", 0): "CSW=", ("read", 4): "TAR", ("write", 4): "TAR=", ("read", 12): "DRW",
       ("write", 12): "DRW="}
 EXEMPT = {"DPIDR", "ABORT", "STATUS"}
@@ -103,6 +106,11 @@ def failed(world):
     return world._replace(pending=None, sticky=True, tar=None, buffer=ANY)
 
 
+def given_up(world):
+    """A port with a write buffer gives the pending write up, where DPIDR or CTRL/STAT is read or ABORT is written."""
+    return world._replace(pending=None, damaged=True)
+
+
 def accepted(world, item):
     """The world once OK is answered, before what the request does, or nothing."""
     if due(world, item) != "ok":
@@ -119,7 +127,8 @@ def refused(world, item):
         before = [succeeded(world)] + ([failed(world)] if world.pending else [])
     else:
         before = [failed(world)] if answer == "ok" and world.pending and name not in EXEMPT else []
-    return [x._replace(readok=x.readok and name not in POSTED, sticky=x.sticky or is_unpowered(x, item)) for x in before]
+    return [x._replace(readok=x.readok and name not in POSTED, sticky=x.sticky or is_unpowered(x, item))
+            for x in before]
 
 
 def found(world, late):
@@ -157,7 +166,8 @@ def read(world, name, seen, late):
         if seen is None:
             return found(world, False)
         early = [failed(world)] if world.pending and not world.sticky else []
-        return [y for x in [world] + early for y in found(x, late) if any((v ^ status(y)) & COMPARED == 0 for v in seen)]
+        return [y for x in [world] + early for y in found(x, late)
+                if any((v ^ status(y)) & COMPARED == 0 for v in seen)]
     if name == "RESEND":
         last = world.last if seen is None else narrowed(world.last, seen)
         return [] if last is None else [world._replace(last=last)]
@@ -173,7 +183,8 @@ def arrived(world, name, word):
         before = [world] + ([failed(world)] if world.pending and word & 4 else [])
         return [x._replace(sticky=x.sticky and not word & 4, damaged=x.damaged and not word & 8) for x in before]
     if name == "STATUS=":
-        return [world._replace(debug="unseen" if word >> 28 & 1 else "off", system="unseen" if word >> 30 & 1 else "off")]
+        debug, system = ("unseen" if word >> bit & 1 else "off" for bit in (28, 30))
+        return [world._replace(debug=debug, system=system)]
     if name == "SELECT":
         return [world._replace(memap=word & 0xFF0000F0 == 0, bank0=word & 15 == 0)]
     if name == "nothing":
@@ -190,6 +201,21 @@ def arrived(world, name, word):
 
 def after(world, item, clean):
     """The worlds after a transaction, each with the number of damaged or lost requests that it takes."""
+    worlds = after_kept(world, item, clean)
+    if world.pending == "write" and register(world, item) in EXEMPT:
+        worlds += after_given_up(given_up(world), item, clean)
+    return worlds
+
+
+def after_given_up(world, item, clean):
+    """The same once the pending write was given up: the target saw the request, and answered OK."""
+    if item[4] == "none":
+        return [] if clean else [(x, 1) for x in after_okay_lost(world, item)]
+    return after_kept(world, item, clean) if item[4] in ("ok", "bad") else []
+
+
+def after_kept(world, item, clean):
+    """The same where no write is given up before it."""
     end, name, reads = item[4], register(world, item), item[3] == "read"
     if end == "fault":
         return [(x, 0) for x in refused(world, item)]
@@ -215,12 +241,16 @@ def after_none(world, item, clean):
         return [(world, 0)]
     if clean:
         return []
-    name, reads = register(world, item), item[3] == "read"
-    worlds = [world] + refused(world, item)
+    return [(x, 1) for x in [world] + refused(world, item) + after_okay_lost(world, item)]
+
+
+def after_okay_lost(world, item):
+    """The worlds after OK that wasn't seen."""
+    name, reads, worlds = register(world, item), item[3] == "read", []
     for x in accepted(world, item):
         x = x._replace(awaits=not reads)
         worlds += read(x, name, None, False) if reads else [x]
-    return [(x, 1) for x in worlds]
+    return worlds
 
 
 # ---- many worlds
@@ -242,8 +272,8 @@ def joined(a, b):
         return None
     if covers(a, b) or covers(b, a):
         return a if covers(a, b) else b
-    if a.tar and b.tar and b == a._replace(tar=b.tar) and (a.tar[0] - b.tar[0]) % 4 == 0 and a.tar[0] >> 10 == b.tar[0] >> 10:
-        if a.tar[1] + 4 >= b.tar[0] and b.tar[1] + 4 >= a.tar[0]:
+    if a.tar and b.tar and b == a._replace(tar=b.tar) and (a.tar[0] - b.tar[0]) % 4 == 0:
+        if a.tar[0] >> 10 == b.tar[0] >> 10 and a.tar[1] + 4 >= b.tar[0] and b.tar[1] + 4 >= a.tar[0]:
             return a._replace(tar=(min(a.tar[0], b.tar[0]), max(a.tar[1], b.tar[1])))
     return None
 
@@ -281,7 +311,8 @@ class Reference:
             elif item[0] == "reset":
                 self.in_gap, self.stray, before, self.worlds = False, 0, self.worlds, []
                 for world, faults in before:
-                    add(self.worlds, world._replace(reset="fresh", damaged=world.damaged or world.awaits, awaits=False), faults)
+                    is_damaged = world.damaged or world.awaits
+                    add(self.worlds, world._replace(reset="fresh", damaged=is_damaged, awaits=False), faults)
             elif item[0] == "tx" and not self.in_gap:
                 self.transact(item)
         self.place += length(item)
@@ -352,9 +383,10 @@ class Reference:
             word = item[5]
             world = LIVE._replace(sticky=bool(word >> 5 & 1), readok=bool(word >> 6 & 1), damaged=bool(word >> 7 & 1))
             return [y._replace(single=single) for y in arrived(world, "STATUS=", word) for single in (False, True)]
-        if self.opening[0] == "selected" and end in ("ok", "bad") and kind != ("dp", 0, "write") and not self.passes(item):
-            powers = ("off", "unseen", "late")
-            return [arrived(LIVE, "SELECT", self.opening[1])[0]._replace(debug=debug, system=system, single=single, readok=ok)
+        is_answered = end in ("ok", "bad") and kind != ("dp", 0, "write")
+        if self.opening[0] == "selected" and is_answered and not self.passes(item):
+            powers, first = ("off", "unseen", "late"), arrived(LIVE, "SELECT", self.opening[1])[0]
+            return [first._replace(debug=debug, system=system, single=single, readok=ok)
                     for debug in powers for system in powers for single in (False, True) for ok in (False, True)]
         return None
 

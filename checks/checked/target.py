@@ -1,22 +1,24 @@
-"""A debug port with a memory access port in Python, right or with one bug, and a host that sends it what it likes.
+"""A debug port with a memory access port in Python, right or with one bug, and a host that sends it what it likes. Half of
+the right ones give a pending write up.
 
 `session(rng, bug, clean, start)` returns the items of a trace, in the form of `reference.py`.
 """
 BASE = 0x20000000
-BUGS = """unreset_answers fresh_answers fresh_status reset_keeps_live status_faults abort_faults dpidr_faults damage_no_fault
-sticky_no_fault rdbuff_no_fault select_no_fault unpowered_ok unpowered_not_sticky wait_first wait_executes readok_at_wait
-readok_at_fault damage_done damage_ignored abort_damage_ignored stkerrclr_nothing wderrclr_nothing wderrclr_all dapabort_clears
-not_posted rdbuff_zero rdbuff_last resend_buffer resend_zero resend_once fault_executes tar_stays tar_always tar_by_8
-tar_not_by_writes tar_within_256 error_silent error_is_damage reset_clears_flags reset_clears_power reset_clears_tar
-reset_clears_csw reset_no_damage status_swapped readok_always readok_any power_by_ack dpidr_even dpidr_changes bank_ignored
-csw_byte csw_off csw_disabled csw_clears_tar ap8_is_tar tar_low_bits tar_late parity_high clear_forgets_resend
-status_waits abort_waits resend_no_fault unpowered_writes_ok damage_done_flagged stkerrclr_all rdbuff_transfers
-buffer_kept_in_bank resend_skips_rdbuff resend_moves_tar read_after_fault write_twice status_drops_write fifth_write_lost
-tar_by_1 tar_packed tar_within_4096 tar_stops_at_1024 error_late error_reads_zero error_loses_write error_each_7th
-reset_clears_select reset_drops_transfer reset_clears_readok status_keeps_word status_bit_31 dp_bank_ignored
-ap_bank_ignored ap_ignored dp_c_selects csw_in_progress csw_upper_zero ap8_is_csw tar_16_bits byte_lost aliased
-stale_read zero_sticks tar_wraps_early resend_sets_readok dpidr_empties ap_ff_is_0 wderrclr_waits wdataerr_hides
-second_dpidr_silent power_goes_with_both damaged_drw_made""".split()
+BUGS = """unreset_answers fresh_answers fresh_status reset_keeps_live status_faults abort_faults dpidr_faults
+damage_no_fault sticky_no_fault rdbuff_no_fault select_no_fault unpowered_ok unpowered_not_sticky wait_first
+wait_executes readok_at_wait readok_at_fault damage_done damage_ignored abort_damage_ignored stkerrclr_nothing
+wderrclr_nothing wderrclr_all dapabort_clears not_posted rdbuff_zero rdbuff_last resend_buffer resend_zero
+resend_once fault_executes tar_stays tar_always tar_by_8 tar_not_by_writes tar_within_256 error_silent
+error_is_damage reset_clears_flags reset_clears_power reset_clears_tar reset_clears_csw reset_no_damage
+status_swapped readok_always readok_any power_by_ack dpidr_even dpidr_changes bank_ignored csw_byte csw_off
+csw_disabled csw_clears_tar ap8_is_tar tar_low_bits tar_late parity_high clear_forgets_resend status_waits
+abort_waits resend_no_fault unpowered_writes_ok damage_done_flagged stkerrclr_all rdbuff_transfers
+buffer_kept_in_bank resend_skips_rdbuff resend_moves_tar read_after_fault write_twice status_drops_write
+fifth_write_lost tar_by_1 tar_packed tar_within_4096 tar_stops_at_1024 error_late error_reads_zero error_loses_write
+error_each_7th reset_clears_select reset_drops_transfer reset_clears_readok status_keeps_word status_bit_31
+dp_bank_ignored ap_bank_ignored ap_ignored dp_c_selects csw_in_progress csw_upper_zero ap8_is_csw tar_16_bits
+byte_lost aliased stale_read zero_sticks tar_wraps_early resend_sets_readok dpidr_empties ap_ff_is_0 wderrclr_waits
+wdataerr_hides second_dpidr_silent power_goes_with_both damaged_drw_made""".split()
 EXEMPT = {("dp", 0, "read"), ("dp", 0, "write")}
 FAULTLESS = (("rdbuff_no_fault", ("dp", 12, "read")), ("select_no_fault", ("dp", 8, "write")),
              ("resend_no_fault", ("dp", 8, "read")))
@@ -25,6 +27,8 @@ FAULTLESS = (("rdbuff_no_fault", ("dp", 12, "read")), ("select_no_fault", ("dp",
 class Target:
     def __init__(self, rng, bug):
         self.rng, self.bug = rng, bug
+        # whether it has a write buffer: it may give a pending write up at a request that can't wait
+        self.buffers = bug is None and rng.random() < 0.5
         self.reset, self.sticky, self.damaged, self.readok = "none", False, False, False
         self.powers, self.ups = [False, False], ["unseen", "unseen"]
         self.select, self.single, self.tar, self.buffer, self.last, self.pending = 0, False, 0, None, None, None
@@ -65,7 +69,8 @@ class Target:
         self.transfers += 1
         if failed:
             if self.bug != "error_silent":
-                self.damaged, self.sticky = (True, self.sticky) if self.bug == "error_is_damage" else (self.damaged, True)
+                is_damage = self.bug == "error_is_damage"
+                self.damaged, self.sticky = self.damaged or is_damage, self.sticky or not is_damage
             self.tar, self.buffer = None, None
             return
         if kind[0] == "read":
@@ -168,6 +173,9 @@ class Target:
         if self.pending is not None and self.rng.random() < 0.5:
             self.complete()
         end = self.answer(request, busy)
+        exempt = request in EXEMPT or request == ("dp", 4, "read") and self.bank0()
+        if self.buffers and exempt and end == "ok" and self.pending and self.pending[0] == "write" and self.rng.random() < 0.5:
+            self.pending, self.damaged = None, True
         self.asked = request
         port, address, direction = request
         posted = direction == "read" and (port == "ap" or address == 12 or self.bug == "readok_any")
@@ -262,7 +270,8 @@ class Target:
             self.damaged, self.buffer, self.last, self.pending = True, None, None, ("write", sent)
             return
         if word is None and self.bug not in ("damage_done", "damage_done_flagged"):
-            if self.bug != "damage_ignored" and not (self.bug == "abort_damage_ignored" and (port, address) == ("dp", 0)):
+            is_ignored = self.bug == "abort_damage_ignored" and (port, address) == ("dp", 0)
+            if self.bug != "damage_ignored" and not is_ignored:
                 self.damaged = True
             return
         self.damaged = self.damaged or word is None and self.bug == "damage_done_flagged"
@@ -394,7 +403,8 @@ class Host:
 
     def anything(self):
         rng = self.rng
-        port, address, direction = rng.choice(["dp", "ap", "ap"]), rng.choice([0, 4, 8, 12, 12]), rng.choice(["read", "write"])
+        port, address = rng.choice(["dp", "ap", "ap"]), rng.choice([0, 4, 8, 12, 12])
+        direction = rng.choice(["read", "write"])
         if rng.random() < 0.15:
             port, address, direction = rng.choice([("dp", 12, "read"), ("dp", 4, "read"), ("dp", 8, "read")])
         word = rng.getrandbits(32)

@@ -1,13 +1,15 @@
 """A serial wire debug port with a write buffer, clock by clock: the target of target.py behind the pins of line.py.
 
-What such a port does that the target without a buffer doesn't, from memory of IHI 0031, B4 (write buffering) and B2 (WDATAERR):
+What such a port does that the target without a buffer doesn't, from memory of IHI 0031, B4 (write buffering) and B2
+(WDATAERR):
 
-1. OK to a write, except to one of ABORT, says that the port accepted it, and nothing of earlier writes. An AP write waits in the
-   buffer until the access port takes it. The access port has one transfer in progress at a time.
-2. A write in the buffer is discarded, and WDATAERR is set, where a transfer before it is a bus error, and where DPIDR or
-   CTRL/STAT is read or ABORT is written, since these can't wait. A write that the access port has taken ends, whatever is asked.
-3. An AP write is answered WAIT only while the buffer is full. Every other request, except the three of rule 2, is answered WAIT
-   until the buffer is empty and nothing is in progress.
+1. OK to a write, except to one of ABORT, says that the port accepted it, and nothing of earlier writes. An AP write
+   waits in the buffer until the access port takes it. The access port has one transfer in progress at a time.
+2. A write in the buffer is discarded, and WDATAERR is set, where a transfer before it is a bus error, and where DPIDR
+   or CTRL/STAT is read or ABORT is written, since these can't wait. A write that the access port has taken ends,
+   whatever is asked.
+3. An AP write is answered WAIT only while the buffer is full. Every other request, except the three of rule 2, is
+   answered WAIT until the buffer is empty and nothing is in progress.
 
 `Choices` has what these rules leave to a port. Wants checks/ in sys.path.
 """
@@ -31,8 +33,8 @@ DRW, DRW_READ = 12, Request(True, True, 12)
 class Choices:
     """What a port chooses. Numbers of clocks are drawn anew for each write.
 
-    `fault` says when FAULT is the answer while a flag is set and the port isn't idle: `at once`; `to writes`, where every other
-    request is answered WAIT until the port is idle; `behind`, where AP writes are, too.
+    `fault` says when FAULT is the answer while a flag is set and the port isn't idle: `at once`; `to writes`, where
+    every other request is answered WAIT until the port is idle; `behind`, where AP writes are, too.
     """
 
     depth: int = 1  # writes that wait behind the transfer in progress: 1 to 3
@@ -40,7 +42,7 @@ class Choices:
     transfer: Span = (0, 60)  # clocks of a transfer
     register: Span = (0, 6)  # clocks of a write of CSW or TAR
     fault: str = "at once"  # one of FAULTS
-    any_flag: bool = False  # WDATAERR of damaged data discards writes in the buffer, too, not only a bus error before them
+    any_flag: bool = False  # WDATAERR of damaged data, too, discards writes in the buffer, not only a bus error before
     dp_writes: bool = False  # writes of SELECT and CTRL/STAT wait in the buffer, too
 
 
@@ -157,7 +159,8 @@ class BufferedTarget(Target):
 
 
 class Line(MarkedPins):
-    """The pins of a BufferedTarget, for so many clocks at most. `marks` has the mark of a request by its number, from 1 on."""
+    """The pins of a BufferedTarget, for so many clocks at most. `marks` has the mark of a request by its number, from 1
+    on."""
 
     def __init__(self, target: BufferedTarget, marks: Callable[[int], Mark], most: int) -> None:
         super().__init__(target, marks)

@@ -1,7 +1,7 @@
 """Judges the report of a run against the transfers that reached the bus.
 
-Each write of a run has its own word, so that a transfer names its write. `wrongs(calls, report, effects)` says what is wrong,
-where the memory began as zeros or as the words that are handed over.
+Each write of a run has its own word, so that a transfer names its write. `wrongs(calls, report, effects)` says what is
+wrong, where the memory began as zeros or as the words that are handed over.
 """
 
 from __future__ import annotations
@@ -19,7 +19,7 @@ class Said:
     """What a report says of the accesses of all calls, by their places in the row of these."""
 
     answers: dict[int, str] = field(default_factory=dict)  # written, busfault or a word
-    attempts: list[tuple[int, int]] = field(default_factory=list)  # the accesses answered so far, and how many more were begun
+    attempts: list[tuple[int, int]] = field(default_factory=list)  # how many were answered so far, and more begun
     ended: Optional[str] = None
     misplaced: bool = False  # a line is of another access, or counts the answers wrong
 
@@ -61,8 +61,8 @@ def is_of(effect: Effect, access: Access, answer: Optional[str]) -> bool:
 
 
 def is_told(accesses: list[Access], said: Said, effects: list[Effect]) -> bool:
-    """Whether the transfers are those of the accesses in their order: in each attempt from the first that had no answer before
-    it up to the last that has one behind it, and as many more as were begun, or fewer."""
+    """Whether the transfers are those of the accesses in their order: in each attempt from the first that had no answer
+    before it up to the last that has one behind it, and as many more as were begun, or fewer."""
     places, first = {0}, 0
     for answered, begun in said.attempts:
         after = set()
@@ -104,9 +104,11 @@ def wrong_reads(accesses: list[Access], said: Said, words: dict[int, int]) -> It
             yield "read"
 
 
-def wrongs(calls: list[list[Access]], report: str, effects: list[Effect], words: Optional[dict[int, int]] = None) -> list[str]:
-    """What a report says that isn't so; `confused` alone is no false report, but no right port may be called that. `words` is
-    the memory as it began."""
+def wrongs(
+    calls: list[list[Access]], report: str, effects: list[Effect], words: Optional[dict[int, int]] = None
+) -> list[str]:
+    """What a report says that isn't so; `confused` alone is no false report, but no right port may be called that.
+    `words` is the memory as it began."""
     said = said_of(report, calls)
     accesses = [access for call in calls for access in call]
     begun = said.begun()
@@ -127,7 +129,8 @@ def wrongs(calls: list[list[Access]], report: str, effects: list[Effect], words:
 
 RIGHT = "w 20000000 written|w 20000004 written|w 20000008 written|r 20000000 00000001|end all 4"
 LOST = "w 20000000 written|end lost 1 begun"
-# A name, the report, the transfers (a write as ADDR=WORD, a read as ADDR, a bus error with ! behind it), and what is wrong.
+# A name, the report, the transfers (a write as ADDR=WORD, a read as ADDR, a bus error with ! behind it), and what is
+# wrong.
 TRIALS = (
     ("right", RIGHT, "0=1 4=2 8=3 0", ""),
     ("doubled", RIGHT, "0=1 0=1 4=2 8=3 0", "twice"),
@@ -155,7 +158,8 @@ TRIALS = (
     ("begun 2, the second alone", LOST + " 2", "0=1 8=3", "order"),
     ("resumed, made twice", "w 20000000 written|resume 1 begun 1|" + RIGHT[19:], "0=1 4=2 4=2 8=3 0", ""),
     ("resumed, made once", "w 20000000 written|resume 1 begun 1|" + RIGHT[19:], "0=1 4=2 8=3 0", ""),
-    ("resumed, made three times", "w 20000000 written|resume 1 begun 1|" + RIGHT[19:], "0=1 4=2 4=2 4=2 8=3 0", "twice"),
+    ("resumed, made three times", "w 20000000 written|resume 1 begun 1|" + RIGHT[19:], "0=1 4=2 4=2 4=2 8=3 0",
+     "twice"),
     ("resumed, another made twice", "w 20000000 written|resume 1 begun 1|" + RIGHT[19:], "0=1 0=1 4=2 8=3 0", "twice"),
     ("resumed, late", "w 20000000 written|resume 1 begun 1|" + RIGHT[19:], "0=1 4=2 8=3 4=2 0", "order"),
     ("a line of another access", RIGHT.replace("w 20000004", "w 20000008"), "0=1 4=2 8=3 0", "line"),

@@ -47,14 +47,31 @@ class Takes(Protocol):
 
 def serve(probe: Takes, line: socket.socket) -> None:
     """Answers each datagram by a reply of the same size, up to the end."""
-    while packet := line.recv(4096):
-        reply = probe.take(packet)
-        line.send(reply.ljust(len(packet), b"\xa5"))
+    with line:
+        while packet := line.recv(4096):
+            reply = probe.take(packet)
+            line.send(reply.ljust(len(packet), b"\xa5"))
+
+
+def opened_port(probe: object) -> object:
+    """pyOCD's debug port over a probe of pyOCD, powered up, its access ports found. The write of ABORT clears each
+    sticky flag: pyOCD's own leaves WDATAERR set, at which a target answers FAULT for good.
+    """
+    from pyocd.coresight import dap
+
+    port = dap.DebugPort(probe, None)
+    port.init()
+    port.write_reg(dap.DP_ABORT, 0x1E)
+    port.power_up_debug()
+    port.find_aps()
+    return port
 
 
 def pyocd_over(probe: Takes) -> SimpleNamespace:
-    """pyOCD's memory access over a probe: `access`, its `probe`, and `packets()`, how many a probe of this model had."""
-    from pyocd.coresight import ap, dap
+    """pyOCD's memory access over a probe: `access`, its `probe` and `port`, and `packets()`, how many a probe of this
+    model had.
+    """
+    from pyocd.coresight import ap
     from pyocd.probe.cmsis_dap_probe import CMSISDAPProbe
     from pyocd.probe.debug_probe import DebugProbe
     from pyocd.probe.pydapaccess.dap_access_cmsis_dap import DAPAccessCMSISDAP
@@ -95,10 +112,7 @@ def pyocd_over(probe: Takes) -> SimpleNamespace:
     host = CMSISDAPProbe(link)
     host.open()
     host.connect(DebugProbe.Protocol.SWD)
-    port = dap.DebugPort(host, None)
-    port.init()
-    port.power_up_debug()
-    port.find_aps()
+    port = opened_port(host)
     access = ap.MEM_AP(port, 0)
     access.init()
     host.flush()
@@ -126,8 +140,7 @@ def openocd_over(probe: Takes, room: str, hidapi: str, commands: list[str]) -> t
         env = os.environ | {"LD_PRELOAD": hidapi, "DAP_SOCKET": name}
         with subprocess.Popen(words, env=env, stdout=subprocess.PIPE, stderr=subprocess.STDOUT, text=True) as run:
             line, _ = listening.accept()
-            with line:
-                serve(probe, line)
+            serve(probe, line)
             said = run.stdout.read()
     os.unlink(name)
     return run.returncode, said

@@ -26,8 +26,8 @@ struct board {
 void board_new(struct board *board);
 
 /*
- * One clock; `drive` is the host's bit, or negative where it leaves the line alone. Gives the bit on it; a negative number
- * if the target refuses a call, as one that wasn't made by board_new does.
+ * One clock; `drive` is the host's bit, or negative where it leaves the line alone. Gives the bit on it; a negative
+ * number if the target refuses a call, as one that wasn't made by board_new does.
  */
 int board_clock(struct board *board, int drive);
 

@@ -1,7 +1,7 @@
 /*
- * A session whose line fails at each of its clocks in turn: inside a list, a poll, a block of reads and a load of words.
- * What the run says is compared with the log of the target's transfers. Then the run is continued, or given up, or the
- * target is opened anew, and words are polled.
+ * A session whose line fails at each of its clocks in turn: inside a list, a poll, a block of reads and a load of
+ * words. What the run says is compared with the log of the target's transfers. Then the run is continued, or given up,
+ * or the target is opened anew, and words are polled.
  *
  *	cuts [STEP]
  *
@@ -16,8 +16,8 @@
 enum { MOST_ACCESSES = 6, MOST_WRITES = 64, MOST_LEVELS = 2, TRIES = 8, POLLS = 3 };
 
 /*
- * How the line fails: the clock isn't made; it is made; it is made, and its level comes late; the line fails again while
- * its cue is left; no later clock works.
+ * How the line fails: the clock isn't made; it is made; it is made, and its level comes late; the line fails again
+ * while its cue is left; no later clock works.
  */
 enum kind { BEFORE, AFTER, LATE, TWICE, GONE, KINDS };
 static const char *const kind_names[] = { "before a clock", "after it", "its level late", "twice", "for good" };
@@ -44,14 +44,15 @@ static struct swd_transfer writes[MOST_WRITES];
 static size_t written;
 
 /*
- * The line: how many clocks work before one fails, and how; whether one has failed, how many were asked for since, and in
- * how many the host drove against the target.
+ * The line: how many clocks work before one fails, and how; whether one has failed, how many were asked for since, and
+ * in how many the host drove against the target.
  */
 static unsigned long left, behind, contended;
 static enum kind kind;
 static bool has_failed;
 
-/* The levels that came over the line and weren't taken yet: more than one where that of a clock that failed came late. */
+/* The levels that came over the line and weren't taken yet: more than one where that of a clock that failed came late.
+ * */
 static int levels[MOST_LEVELS];
 static size_t come;
 

@@ -26,8 +26,8 @@ struct dap {
 bool dap_connect(struct dap *dap, int in, int out, bool framed);
 
 /*
- * Sends a packet of `length` bytes, and reads the reply. Gives its length: 0 if it isn't one to this command, of `least`
- * bytes or more. That of a report is `size`, whatever the reply is.
+ * Sends a packet of `length` bytes, and reads the reply. Gives its length: 0 if it isn't one to this command, of
+ * `least` bytes or more. That of a report is `size`, whatever the reply is.
  */
 size_t dap_exchange(struct dap *dap, size_t length, size_t least);
 

@@ -6,10 +6,10 @@
  *   ./dap_bulk <there >back &
  *   swd info --probe=back,there --framed
  *
- * With an argument it takes the probe with this serial number, else the first one. On standard input and output a packet
- * has its length before it, two bytes, the first one least significant. A probe that doesn't answer, or that is pulled
- * out, answers with a packet of no bytes, at which swd ends the connection. Not tried on a device: the check of these
- * examples has fake_libusb.c in place of the library.
+ * With an argument it takes the probe with this serial number, else the first one. On standard input and output a
+ * packet has its length before it, two bytes, the first one least significant. A probe that doesn't answer, or that is
+ * pulled out, answers with a packet of no bytes, at which swd ends the connection. Not tried on a device: the check of
+ * these examples has fake_libusb.c in place of the library.
  */
 #define _POSIX_C_SOURCE 200809L
 #include <libusb-1.0/libusb.h>

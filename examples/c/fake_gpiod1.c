@@ -1,6 +1,6 @@
 /*
- * As much of libgpiod 1.6 as pins_gpiod.c calls, over the same board as fake_gpiod.c's. A line that isn't there or wasn't
- * requested, a value put on an input and a read of an output fail, as a kernel lets them.
+ * As much of libgpiod 1.6 as pins_gpiod.c calls, over the same board as fake_gpiod.c's. A line that isn't there or
+ * wasn't requested, a value put on an input and a read of an output fail, as a kernel lets them.
  */
 #include <errno.h>
 #include <gpiod.h>

@@ -1,6 +1,6 @@
 /*
- * As much of libusb-1.0 as dap_bulk.c calls. The second of its two devices is a probe, whose second interface is that of
- * CMSIS-DAP version 2. Packets go to the socket that DAP_SOCKET names, a datagram each; without it the probe answers
+ * As much of libusb-1.0 as dap_bulk.c calls. The second of its two devices is a probe, whose second interface is that
+ * of CMSIS-DAP version 2. Packets go to the socket that DAP_SOCKET names, a datagram each; without it the probe answers
  * each packet with the packet. A transfer that isn't complete at the most bytes or at a shorter packet goes on, and
  * times out.
  */
@@ -30,7 +30,8 @@ static struct libusb_device devices[2] = { { 0 }, { 1 } };
 static struct libusb_device_handle handles[2];
 
 static const struct libusb_endpoint_descriptor in_and_out[3] = {
-	{ 0x02, LIBUSB_TRANSFER_TYPE_BULK, 64 }, { 0x83, LIBUSB_TRANSFER_TYPE_BULK, 64 }, { 0x84, LIBUSB_TRANSFER_TYPE_BULK, 64 },
+	{ 0x02, LIBUSB_TRANSFER_TYPE_BULK, 64 }, { 0x83, LIBUSB_TRANSFER_TYPE_BULK, 64 },
+	{ 0x84, LIBUSB_TRANSFER_TYPE_BULK, 64 },
 };
 static const struct libusb_interface_descriptor settings[2] = {
 	{ 0, 0, 3, SERIAL, NULL }, { 1, 3, 0xff, NAME, in_and_out },

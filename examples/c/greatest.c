@@ -1,14 +1,14 @@
 /*
- * Each list, block and poll once at its greatest size: 65,536 accesses, a run that is resumed behind 65,535 answers, and a
- * million reads of a status over a target that is opened once.
+ * Each list, block and poll once at its greatest size: 65,536 accesses, a run that is resumed behind 65,535 answers,
+ * and a million reads of a status over a target that is opened once.
  */
 #include <stdio.h>
 #include "line.h"
 
 enum { BASE = 0x20000000, WORDS = 65536, TRIES = 8 };
 
-/* The requests of a list of writes at consecutive addresses: the opening, DRW for each, and in each kilobyte TAR before its
- * first word and RDBUFF after its last one. */
+/* The requests of a list of writes at consecutive addresses: the opening, DRW for each, and in each kilobyte TAR before
+ * its first word and RDBUFF after its last one. */
 enum { REQUESTS = 9 + WORDS + 2 * (WORDS / 256) };
 
 static struct swd_target target;
@@ -91,7 +91,8 @@ static bool resumed_behind_all_but_one(uint64_t cycles)
 	silent_from = cycles;
 	list(1);
 	swd_run_new(&run, TRIES);
-	lost = line_run(&run, accesses, WORDS, answers).outcome.kind == SWD_LOST && run.answered == WORDS - 1 && run.begun == 1;
+	lost = line_run(&run, accesses, WORDS, answers).outcome.kind == SWD_LOST && run.answered == WORDS - 1
+		&& run.begun == 1;
 	silent_from = UINT64_MAX;
 	return lost && swd_run_again(&run, TRIES) && line_run(&run, accesses, WORDS, answers).outcome.kind == SWD_ALL
 	       && count_answers(SWD_WRITTEN) == WORDS && is_read();

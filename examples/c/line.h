@@ -7,17 +7,17 @@
 #include "swd.h"
 
 /*
- * One clock of the line. `drive` is the bit that the host drives, or RELEASED. Gives the bit on the line; an
- * undriven one reads 1. Gives LINE_FAILED, or another negative number, if the clock can't be made, or its level didn't
- * come. A level that comes late is dropped before the next clock, or else each later level is that of an earlier clock; a
- * line that can't do that fails from then on. Each example has its own.
+ * One clock of the line. `drive` is the bit that the host drives, or RELEASED. Gives the bit on the line; an undriven
+ * one reads 1. Gives LINE_FAILED, or another negative number, if the clock can't be made, or its level didn't come. A
+ * level that comes late is dropped before the next clock, or else each later level is that of an earlier clock; a line
+ * that can't do that fails from then on. Each example has its own.
  */
 enum { RELEASED = -1, LINE_FAILED = -1 };
 int line_clock(int drive);
 
 /*
- * Where the line failed in a run, if it did. In the data phase of SWD_GIVE: what swd_give_rest takes; elsewhere `failed`
- * is 0.
+ * Where the line failed in a run, if it did. In the data phase of SWD_GIVE: what swd_give_rest takes; elsewhere
+ * `failed` is 0.
  */
 struct line_failure {
 	bool has_failed;
@@ -45,9 +45,9 @@ struct swd_cue line_try(struct swd_run *run, const struct swd_access *accesses, 
 uint64_t line_reply(struct line_failure *failure, const struct swd_cue *cue);
 
 /*
- * Leaves the cue inside which the line failed, before the lead of a run that swd_run_again made: has the target drop the
- * data phase, and releases the line up to the end of an acknowledgement. Gives whether the line didn't fail again; else
- * it is to be called again.
+ * Leaves the cue inside which the line failed, before the lead of a run that swd_run_again made: has the target drop
+ * the data phase, and releases the line up to the end of an acknowledgement. Gives whether the line didn't fail again;
+ * else it is to be called again.
  */
 bool line_leave(struct line_failure *failure);
 

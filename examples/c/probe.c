@@ -1,7 +1,7 @@
 /*
  * A host over a CMSIS-DAP probe, which writes words to 20000000 and reads them back. swd_run_plan says which
- * transactions come next if each is OK. A packet of DAP_Transfer makes as many of them as fit, and the probe stops at the
- * first that isn't OK. Its reply is passed to the run, which then asks for just these transactions.
+ * transactions come next if each is OK. A packet of DAP_Transfer makes as many of them as fit, and the probe stops at
+ * the first that isn't OK. Its reply is passed to the run, which then asks for just these transactions.
  *	probe FILE WORDS    by reports, as those of /dev/hidraw0
  *	probe - WORDS       by standard input and output, each packet behind its length: dap_bulk.c takes them to USB
  */

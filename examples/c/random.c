@@ -1,7 +1,7 @@
 /*
- * Calls on structs of any bytes, and of bytes near to those of a struct in order: each call gives back
- * control, and what it refuses it leaves as it was. Takes the number of calls. The numbers are drawn one in a statement,
- * so that every compiler draws them in the same order, and prints the same.
+ * Calls on structs of any bytes, and of bytes near to those of a struct in order: each call gives back control, and
+ * what it refuses it leaves as it was. Takes the number of calls. The numbers are drawn one in a statement, so that
+ * every compiler draws them in the same order, and prints the same.
  */
 #include <stdio.h>
 #include <stdlib.h>

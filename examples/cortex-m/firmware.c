@@ -1,6 +1,6 @@
 /*
- * What a probe's firmware takes of the library: sessions over two pins of a port. It is linked to see how large that is,
- * and run nowhere; the port's registers are those of no chip.
+ * What a probe's firmware takes of the library: sessions over two pins of a port. It is linked to see how large that
+ * is, and run nowhere; the port's registers are those of no chip.
  */
 #include "line.h"
 

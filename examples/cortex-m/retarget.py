@@ -3,8 +3,8 @@
 
 usage: retarget.py MODULE.ll TRIPLE [SWD_H] >OUT.ll
 
-With SWD_H, the exports get the convention by which C calls what that header declares. Without it each function keeps its own:
-a count has 64 bits.
+With SWD_H, the exports get the convention by which C calls what that header declares. Without it each function keeps
+its own: a count has 64 bits.
 """
 import re
 import sys

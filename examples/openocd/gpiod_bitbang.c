@@ -3,7 +3,8 @@
  * wire over a TCP connection to 127.0.0.1. So that release, whose own remote_bitbang driver has JTAG alone, reaches
  * `swd target`. Built as a shared library and preloaded; SWCLK is line 0 of chip 0, SWDIO line 1.
  *
- * SWD_PORT is the port, 4711 where it isn't set. A server that is only just starting is waited for, ten seconds at most.
+ * SWD_PORT is the port, 4711 where it isn't set. A server that is only just starting is waited for, ten seconds at
+ * most.
  */
 #define _POSIX_C_SOURCE 200809L
 #include <arpa/inet.h>

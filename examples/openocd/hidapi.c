@@ -1,6 +1,6 @@
 /*
- * Stands in for libhidapi under OpenOCD's own driver of CMSIS-DAP: built as a shared library and preloaded, it leads to a
- * simulated probe at the SOCK_SEQPACKET socket that DAP_SOCKET names. A datagram is a report without its number.
+ * Stands in for libhidapi under OpenOCD's own driver of CMSIS-DAP: built as a shared library and preloaded, it leads to
+ * a simulated probe at the SOCK_SEQPACKET socket that DAP_SOCKET names. A datagram is a report without its number.
  */
 #define _POSIX_C_SOURCE 200809L
 #include <poll.h>

@@ -123,7 +123,8 @@ class Report:
     def words(self) -> List[int]:
         """Returns the words that were read, in the order of the reads.
 
-        Raises `AccessFaulted` if a read was a bus error: the words behind it would take its place. `answers` has them."""
+        Raises `AccessFaulted` if a read was a bus error: the words behind it would take its place. `answers` has
+        them."""
         words = []
         for index, answer in enumerate(self.answers):
             if isinstance(answer, Value):

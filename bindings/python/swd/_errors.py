@@ -122,8 +122,8 @@ class CallbackFailed(RunFailed):
 
 
 class Interrupted(KeyboardInterrupt):
-    """Ctrl-C came during a run, or before its call returned. `report` has what is certain, as that of a `RunFailed`; if not
-    all was answered, `resume` continues it. In a pause of `Session.until`, `report` is that of the last read."""
+    """Ctrl-C came during a run, or before its call returned. `report` has what is certain, as that of a `RunFailed`; if
+    not all was answered, `resume` continues it. In a pause of `Session.until`, `report` is that of the last read."""
 
     def __init__(self, message: str, report: "Report") -> None:
         super().__init__(message)
@@ -152,8 +152,8 @@ class ImageStopped(RunFailed):
 
 
 class ImageInterrupted(Interrupted):
-    """Ctrl-C came during a `load`, `verify` or `dump`, after its first run began. `addr`, `done`, `data` and `report` are as
-    those of `ImageStopped`."""
+    """Ctrl-C came during a `load`, `verify` or `dump`, after its first run began. `addr`, `done`, `data` and `report`
+    are as those of `ImageStopped`."""
 
     def __init__(self, message: str, report: "Report", addr: int, done: int, data: bytes = b"") -> None:
         super().__init__(message, report)

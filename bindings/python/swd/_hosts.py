@@ -108,8 +108,8 @@ class _Driver:
     def run_block(
         self, addr: int, count: int, *, check: bool = True, bus_errors: bool = False, on_answer: OnAnswer = None,
     ) -> Report:
-        """Reads `count` words at `addr`, `addr + 4` and so on, at one request per word, also with `bursts`. `words()` of
-        the report has them, unless one was a bus error.
+        """Reads `count` words at `addr`, `addr + 4` and so on, at one request per word, also with `bursts`. `words()`
+        of the report has them, unless one was a bus error.
 
         Raises what `block` and `run` raise. `resume` continues it with the list `block(addr, count)`."""
         run = self._made(block(addr, count), True)
@@ -122,8 +122,8 @@ class _Driver:
         """Continues a run of these accesses that ended with `End.LOST` or `End.TRIES`, over the same target, from the
         first access that wasn't answered. The report is that of the whole list, but `requests` counts this call alone.
 
-        An access that was in flight may be done again. Raises `NotResumable` if the report ended otherwise, is of another
-        list, or has more answers than there are accesses, and what `run` raises."""
+        An access that was in flight may be done again. Raises `NotResumable` if the report ended otherwise, is of
+        another list, or has more answers than there are accesses, and what `run` raises."""
         run = Run.resumed(accesses, report, self._tries, bursts=self.bursts, library=self._library)
         return self._performed(run, on_answer, _checking(check, bus_errors))
 
@@ -163,8 +163,8 @@ class _Driver:
 
         Raises `NotBytes`, and `OutOfRange` if the bytes pass the end of the address space, before anything is sent.
         Raises `ImageStopped` if a run ended early or met a bus error, if the line or `on_progress` failed, and
-        `ImageInterrupted` at Ctrl-C: these say which bytes are certainly written, and where to continue. A Ctrl-C before
-        the first run, or after the call, is a plain `KeyboardInterrupt`."""
+        `ImageInterrupted` at Ctrl-C: these say which bytes are certainly written, and where to continue. A Ctrl-C
+        before the first run, or after the call, is a plain `KeyboardInterrupt`."""
         _images.load(self.run, self._newest_run, addr, data, on_progress)
 
     def verify(self, addr: int, data: Buffer, *, on_progress: OnProgress = None) -> None:
@@ -207,14 +207,15 @@ class _Driver:
             raise
 
     def _newest_run(self) -> Optional[Run]:
-        """Returns the last run that was started, for an image: Ctrl-C may come before a call has returned its report."""
+        """Returns the last run that was started, for an image: Ctrl-C may come before a call has returned its
+        report."""
         return self._newest
 
     def _performed(
         self, run: Run, on_answer: OnAnswer, result: Callable[[Run], _Result], perform: Optional[_Perform] = None,
     ) -> _Result:
-        """Performs a run over the line, and returns what `result` makes of it. Nothing else does. `perform` takes the place
-        of the line's. `result` is called in here, so that a Ctrl-C in it has the report, too."""
+        """Performs a run over the line, and returns what `result` makes of it. Nothing else does. `perform` takes the
+        place of the line's. `result` is called in here, so that a Ctrl-C in it has the report, too."""
         claim = Claim()
         try:
             with claim:
@@ -274,9 +275,9 @@ class Host(_Driver):
     `tries` is the number of events that the opening, and each access, may meet: a WAIT, a read word with wrong parity,
     or corrupted write data. At one more the run ends with `End.TRIES`.
 
-    Each write is confirmed by a read of RDBUFF, and reads at consecutive addresses go in bursts, at one request each. With
-    `bursts` writes at consecutive addresses go in bursts, too fast for some ports: a debug port with a write buffer may
-    discard a write whose confirmation was the next one, and the report may be wrong."""
+    Each write is confirmed by a read of RDBUFF, and reads at consecutive addresses go in bursts, at one request each.
+    With `bursts` writes at consecutive addresses go in bursts, too fast for some ports: a debug port with a write
+    buffer may discard a write whose confirmation was the next one, and the report may be wrong."""
 
 
 class Session(_Driver):
@@ -336,7 +337,8 @@ class Session(_Driver):
         `interval` seconds between two of them. Returns the word.
 
         Raises `OutOfRange` if `value` has bits outside `mask`, since they would never come, `ConditionNotMet` after the
-        last read, and what `run` raises. Ctrl-C in a pause is `Interrupted`, too, with the report of the read before."""
+        last read, and what `run` raises. Ctrl-C in a pause is `Interrupted`, too, with the report of the read
+        before."""
         mask, value = checked_word("mask", mask), checked_word("value", value)
         if value & ~mask:
             fail("value", value, f"within mask, {mask:#x}")
@@ -354,7 +356,8 @@ class Session(_Driver):
         raise ConditionNotMet(f"r {addr:08x} was {found:08x} at the last of {reads} reads", run.report())
 
     def _poll(self, addr: int) -> Tuple[int, Run]:
-        """Reads the word at an address, and returns it with its run. A read like the last one takes its run once more."""
+        """Reads the word at an address, and returns it with its run. A read like the last one takes its run once
+        more."""
         at, run = self._polled
         if run is not None and self.is_open and type(addr) is int and addr == at and run.tries == self._tries:
             run.reopen()

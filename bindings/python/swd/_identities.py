@@ -14,7 +14,8 @@ _OK = 1
 
 @dataclass(frozen=True)
 class Identification:
-    """DPIDR, the identification of a debug port, by the fields of IHI 0031, "DPIDR, Debug Port Identification register"."""
+    """DPIDR, the identification of a debug port, by the fields of IHI 0031, "DPIDR, Debug Port Identification
+    register"."""
 
     word: int
 
@@ -51,8 +52,8 @@ class Identification:
 
 @dataclass(frozen=True)
 class Opening:
-    """What was read of a target while it was opened, as far as that came: also where the opening failed. Each word is one
-    that was read with right parity: DPIDR, and the last of CTRL/STAT."""
+    """What was read of a target while it was opened, as far as that came: also where the opening failed. Each word is
+    one that was read with right parity: DPIDR, and the last of CTRL/STAT."""
 
     dpidr: Optional[Identification] = None
     ctrl_stat: Optional[int] = None

@@ -101,7 +101,8 @@ class _Transfer:
         return None if run is None or run is self.counted else run.report()
 
     def tell(self, failure: BaseException) -> None:
-        """Says how far the image came in what ended it after a call began: raises the exception of an image in its place."""
+        """Says how far the image came in what ended it after a call began: raises the exception of an image in its
+        place."""
         report = report_of(failure)
         # A call that is refused has no run: the last one is that of whoever uses the line.
         if report is None and not isinstance(failure, Reentered):

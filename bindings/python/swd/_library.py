@@ -103,8 +103,8 @@ WANTS_READ, WANTS_WRITE = 1, 2
 SILENCE = {ASK: 0x7, TAKE: 0x1_FFFF_FFFF}
 
 _run = ctypes.POINTER(RunStruct)
-# The result and the arguments of each function. Where the second is None, the arguments are passed as objects of ctypes:
-# to convert others would take longer than the call, and these are called at each cue or list.
+# The result and the arguments of each function. Where the second is None, the arguments are passed as objects of
+# ctypes: to convert others would take longer than the call, and these are called at each cue or list.
 _FUNCTIONS: Dict[str, Tuple[Any, Optional[Tuple[Any, ...]]]] = {
     "swd_layout": (None, (ctypes.c_void_p,)),
     "swd_run_layout": (None, (ctypes.c_void_p,)),
@@ -212,8 +212,8 @@ def _elements(path: str, value: Any) -> Iterator[Tuple[str, Any]]:
 
 
 def _places() -> List[str]:
-    """Where the library is searched: beside the package, where `./swd --library` leaves it, and where the system's loader
-    searches a bare name. No compiler or linker is asked."""
+    """Where the library is searched: beside the package, where `./swd --library` leaves it, and where the system's
+    loader searches a bare name. No compiler or linker is asked."""
     here = os.path.dirname(os.path.abspath(__file__))
     out = os.path.normpath(os.path.join(here, "..", "..", "..", "crates", "swd_c", "out"))
     made = [os.path.join(out, kind, "lib", NAME) for kind in ("proved", "unproved")]

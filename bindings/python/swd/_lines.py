@@ -123,7 +123,8 @@ def _check_call(name: str, call: Any) -> None:
 
 
 def _key(call: Any) -> Hashable:
-    """Returns what equals that of the same function. Each look-up of a method makes another object, and these are equal."""
+    """Returns what equals that of the same function. Each look-up of a method makes another object, and these are
+    equal."""
     return call if isinstance(call, (MethodType, BuiltinMethodType)) else id(call)
 
 

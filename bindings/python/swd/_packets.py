@@ -16,8 +16,8 @@ _VENDOR = 0xFF
 
 
 class Packets(Protocol):
-    """A way to a probe, for `Probe.over`: each packet is answered by one reply. One that doesn't come, or not as a whole, is
-    an `OSError` or `ProbeFailed`. The probe is used no more after one."""
+    """A way to a probe, for `Probe.over`: each packet is answered by one reply. One that doesn't come, or not as a
+    whole, is an `OSError` or `ProbeFailed`. The probe is used no more after one."""
 
     def exchange(self, packet: bytes, size: int) -> bytes:
         """Sends a packet, and returns the reply. `size` is the size of the probe's packets, 64 until it said its own:

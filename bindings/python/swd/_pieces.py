@@ -8,8 +8,8 @@ from ._runs import Run
 
 
 class _Place(NamedTuple):
-    """How far a run came: how many accesses the pieces before answered, and how many requests they sent; which piece is at
-    hand."""
+    """How far a run came: how many accesses the pieces before answered, and how many requests they sent; which piece is
+    at hand."""
 
     answered: int
     requests: int

@@ -9,8 +9,8 @@ HEAD, _MOST_REQUESTS = 3, 255
 
 
 class Planned(NamedTuple):
-    """A transaction that comes next if each before it is OK: the eight bits of its request, and the word that it writes, 0
-    for a read."""
+    """A transaction that comes next if each before it is OK: the eight bits of its request, and the word that it
+    writes, 0 for a read."""
 
     request: int
     word: int
@@ -36,20 +36,20 @@ class Planned(NamedTuple):
 
 
 class Beginning(NamedTuple):
-    """The first transactions of a plan that one packet makes, and of how many requests: a read of RDBUFF behind a last read
-    of the access port is none."""
+    """The first transactions of a plan that one packet makes, and of how many requests: a read of RDBUFF behind a last
+    read of the access port is none."""
 
     planned: Tuple[Planned, ...]
     requests: int
 
 
 def longest_beginning(plan: Sequence[Planned], size: int, posted: bool) -> Optional[Beginning]:
-    """Returns the longest beginning of a plan that one packet of this size makes, if there is one. `posted` says whether a
-    read of the access port has a word that wasn't fetched.
+    """Returns the longest beginning of a plan that one packet of this size makes, if there is one. `posted` says
+    whether a read of the access port has a word that wasn't fetched.
 
-    Behind a read of the access port, unless another follows, and behind a last write, the probe reads RDBUFF by itself. So
-    a packet ends at a read of the debug port, or where that read of RDBUFF is planned. The probe drops the word of the
-    packet's first read of the access port: there is none, if that is the word of a read before the packet."""
+    Behind a read of the access port, unless another follows, and behind a last write, the probe reads RDBUFF by itself.
+    So a packet ends at a read of the debug port, or where that read of RDBUFF is planned. The probe drops the word of
+    the packet's first read of the access port: there is none, if that is the word of a read before the packet."""
     best, length, back, behind = 0, HEAD, HEAD, False
     for place, it in enumerate(plan[:_MOST_REQUESTS]):
         if behind and it.request == RDBUFF:

@@ -23,8 +23,8 @@ _WRONG_PARITY = 1 << DATA_BITS - 1
 
 
 class _Told(NamedTuple):
-    """A transaction that the probe made: the three bits of its acknowledgement, and the 33 bits of the data phase behind
-    OK."""
+    """A transaction that the probe made: the three bits of its acknowledgement, and the 33 bits of the data phase
+    behind OK."""
 
     planned: Planned
     seen: int
@@ -42,19 +42,19 @@ class Probe:
         with swd.Probe("/dev/hidraw0") as probe, swd.Session(probe) as session:
             print(hex(session.read(0x20000000)))
 
-    `path` is a file of reports, as Linux has one for a probe of version 1 (`swd probes` lists them); or `hid:` or `usb:`,
-    by Debian's python3-hid (version 1) or python3-usb (version 2), where there are several with a serial number behind. It
-    may be two files, `IN,OUT`; `framed` says that each packet has its length before it, in two bytes. `speed` is that of
-    SWCLK in hertz. A reply is waited for `timeout` seconds.
+    `path` is a file of reports, as Linux has one for a probe of version 1 (`swd probes` lists them); or `hid:` or
+    `usb:`, by Debian's python3-hid (version 1) or python3-usb (version 2), where there are several with a serial number
+    behind. It may be two files, `IN,OUT`; `framed` says that each packet has its length before it, in two bytes.
+    `speed` is that of SWCLK in hertz. A reply is waited for `timeout` seconds.
 
-    A packet makes as many of the run's next transactions as fit. The probe stops at the first that isn't OK, and repeats
-    none. A run of reads takes 0.07 packets a word, at packets of 64 bytes. `bursts` of a session makes no packet fuller:
-    leave it off.
+    A packet makes as many of the run's next transactions as fit. The probe stops at the first that isn't OK, and
+    repeats none. A run of reads takes 0.07 packets a word, at packets of 64 bytes. `bursts` of a session makes no
+    packet fuller: leave it off.
 
-    Raises `ProbeFailed` if there is no such probe, or none that can be used. Where a reply can't be used, where none comes, and
-    at Ctrl-C while one is awaited, the call raises what that of a line raises that fails. `begun` of its report then counts
-    each access that the packet may have made. The probe is closed from then on, and each later call fails with
-    `ProbeFailed`: make another one."""
+    Raises `ProbeFailed` if there is no such probe, or none that can be used. Where a reply can't be used, where none
+    comes, and at Ctrl-C while one is awaited, the call raises what that of a line raises that fails. `begun` of its
+    report then counts each access that the packet may have made. The probe is closed from then on, and each later call
+    fails with `ProbeFailed`: make another one."""
 
     def __init__(self, path: str, *, framed: bool = False, speed: int = 1_000_000, timeout: float = 5.0) -> None:
         self._begin(opened(path, framed, timeout), speed)
@@ -97,8 +97,8 @@ class Probe:
         return self._size
 
     def exchange(self, packet: bytes, least: int) -> bytes:
-        """Sends a packet of a command, and returns its reply, which has so many bytes at least. After a failure, also at
-        Ctrl-C, a reply may be unread, so that nothing more is sent."""
+        """Sends a packet of a command, and returns its reply, which has so many bytes at least. After a failure, also
+        at Ctrl-C, a reply may be unread, so that nothing more is sent."""
         if self._failure is not None:
             raise ProbeFailed(f"the probe is closed: {self._failure}")
         self._failure = "a call was broken off before its reply was read"

@@ -152,9 +152,9 @@ class Run:
         return self.answers(first)
 
     def plan(self) -> Tuple[Planned, ...]:
-        """Returns the transactions that come next, at most 128. The run asks for exactly these, as long as each is acknowledged
-        with OK and each word arrives with right parity, whatever words are read. They end behind a read whose word
-        decides what follows, and behind the last access. There are none where the cue isn't an `Ask`."""
+        """Returns the transactions that come next, at most 128. The run asks for exactly these, as long as each is
+        acknowledged with OK and each word arrives with right parity, whatever words are read. They end behind a read
+        whose word decides what follows, and behind the last access. There are none where the cue isn't an `Ask`."""
         here, listed, count, _, _ = self._passed
         room = (PlannedStruct * MOST_PLANNED)()
         found = self._functions.swd_run_plan(here, listed, count, ctypes.byref(room), _argument(MOST_PLANNED))
@@ -276,8 +276,8 @@ def _stepper(call: Any, passed: Tuple[Any, ...]) -> Callable[[int], Any]:
 
 
 def accepted(cue: Any, reply: int = 0) -> Any:
-    """Returns a cue that the library didn't refuse. It refuses a reply that no cue has. Else a refusal says that something
-    else wrote into a struct."""
+    """Returns a cue that the library didn't refuse. It refuses a reply that no cue has. Else a refusal says that
+    something else wrote into a struct."""
     if cue.kind != REFUSED:
         return cue
     if cue.outcome.kind == _BAD_REPLY:

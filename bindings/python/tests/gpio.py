@@ -1,5 +1,5 @@
-"""Stand-ins of the module `gpiod` 2 and 1, as far as examples/python uses them: two lines of a chip, and a target behind
-them. A value put on an input, and a read of an output, fail, as a kernel lets them."""
+"""Stand-ins of the module `gpiod` 2 and 1, as far as examples/python uses them: two lines of a chip, and a target
+behind them. A value put on an input, and a read of an output, fail, as a kernel lets them."""
 import enum
 import types
 

@@ -7,8 +7,8 @@ from swd import End, Read, Value, Write, Written
 from test_swd import BASE, library_target, plan_of
 
 MOST = 65_536
-# The requests of a list of writes in bursts: the opening, DRW for each, and in each kilobyte TAR before its first word and
-# RDBUFF after its last one.
+# The requests of a list of writes in bursts: the opening, DRW for each, and in each kilobyte TAR before its first word
+# and RDBUFF after its last one.
 REQUESTS = 9 + MOST + 2 * 256
 
 
@@ -29,8 +29,8 @@ def words():
 
 
 class Status:
-    """A line of sequences to a status that is 0, and 1 at the last of so many reads. The library's target is at its end while
-    it is opened. Afterwards the replies alone are made: a million reads of that target take minutes."""
+    """A line of sequences to a status that is 0, and 1 at the last of so many reads. The library's target is at its end
+    while it is opened. Afterwards the replies alone are made: a million reads of that target take minutes."""
 
     def __init__(self, reads):
         self.target, self.reads = library_target(PlainMemory(BASE, 1, 1)), reads

@@ -210,8 +210,8 @@ class Damages(unittest.TestCase):
         self.assertEqual(pickle.loads(pickle.dumps(stop)).done, stop.done)
 
     def test_a_lost_acknowledgement(self):
-        """Nine requests of the opening, and three for each of two partial words: TAR, DRW and RDBUFF. Then TAR, and four
-        words, with RDBUFF behind each, or behind the last of a burst."""
+        """Nine requests of the opening, and three for each of two partial words: TAR, DRW and RDBUFF. Then TAR, and
+        four words, with RDBUFF behind each, or behind the last of a burst."""
         content, data = bytes(range(0x80, 0x98)), bytes(range(1, 15))
         # The request, and how many bytes are written then for certain: the request behind a write confirms it.
         each = (11, 0), (14, 0), (17, 0), (18, 0), (19, 3), (20, 3), (21, 7), (22, 7), (23, 11), (24, 11)

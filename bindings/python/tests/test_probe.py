@@ -1,5 +1,5 @@
-"""Tests of `swd.Probe` over the simulated probe of checks/model, which was written apart from `swd`. They are run as those
-of test_swd.py."""
+"""Tests of `swd.Probe` over the simulated probe of checks/model, which was written apart from `swd`. They are run as
+those of test_swd.py."""
 import errno
 import os
 import random
@@ -30,8 +30,8 @@ OPENING = 9  # requests
 
 
 class Simulated:
-    """A simulated target behind a simulated probe, and the way to it. No word of the memory is zero before it is read. Each
-    reply has junk behind it, but where packets have lengths."""
+    """A simulated target behind a simulated probe, and the way to it. No word of the memory is zero before it is read.
+    Each reply has junk behind it, but where packets have lengths."""
 
     def __init__(self, size=64, *, padded=True, marks=lambda number: CLEAN, late=False, wrap=False, seed=0, probe=SimulatedProbe):
         self.chance = random.Random(seed)

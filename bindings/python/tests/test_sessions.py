@@ -126,8 +126,8 @@ class CtrlC:
 
     @classmethod
     def at_each(cls, call, *how):
-        """Makes this call with Ctrl-C at each place in turn. Yields the place and what was raised, up to a call that passed
-        all of its places."""
+        """Makes this call with Ctrl-C at each place in turn. Yields the place and what was raised, up to a call that
+        passed all of its places."""
         for place in itertools.count():
             try:
                 with cls(place, *how):
@@ -490,8 +490,8 @@ class Failures(unittest.TestCase):
                 self.assertEqual(line.line.target.contended, 0)
 
     def test_a_data_phase_that_is_broken_off_twice(self):
-        """The line fails again while the rest is driven, at any bit but the 32nd of the data phase, which decides that the
-        target drops the word."""
+        """The line fails again while the rest is driven, at any bit but the 32nd of the data phase, which decides that
+        the target drops the word."""
         for word, made, first in itertools.product((0, WORD), (False, True), range(0, 33, 4)):
             for second in range(33 - first):
                 if first + second == 31:
@@ -552,7 +552,8 @@ class Failures(unittest.TestCase):
                 self.assertEqual(host.resume(LIST, caught.exception.report).answers, ANSWERS)
 
     def test_a_run_inside_a_run_over_functions(self):
-        """Each call makes a tuple of its own, of an object's methods, or of functions, whether they have a hash or not."""
+        """Each call makes a tuple of its own, of an object's methods, or of functions, whether they have a hash or
+        not."""
         class Unhashable:
             """A function as an object that is compared by its value."""
 

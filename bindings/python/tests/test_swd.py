@@ -107,8 +107,8 @@ def shown(answer):
 
 
 def is_wanted(line, wanted):
-    """Whether a line is the wanted one: ? stands for any word. How many ones of a resumed run's lead are seen depends on
-    what the target still drives."""
+    """Whether a line is the wanted one: ? stands for any word. How many ones of a resumed run's lead are seen depends
+    on what the target still drives."""
     if wanted == "> reset 100":
         return line.startswith("> reset ")
     return line.startswith(wanted[:-1]) if wanted.endswith("?") else line == wanted
@@ -774,7 +774,8 @@ class Pages(unittest.TestCase):
                 asyncio.run(names["monitor"](swclk, swdio))
 
     def test_resume(self):
-        """The program of that page that resumes a run: after a loss it does, and at a bus error it raises what it met."""
+        """The program of that page that resumes a run: after a loss it does, and at a bus error it raises what it
+        met."""
         program = program_of_the_page("host.resume(accesses")
         for words, marks, failure in ((8, {14: "deaf"}, None), (4, {}, swd.AccessFaulted)):
             memory = PlainMemory(BASE, words, 100)

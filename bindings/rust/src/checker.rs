@@ -90,8 +90,8 @@ impl fmt::Display for Verdict {
     }
 }
 
-/// An item that no trace has: an address of a request that isn't 0, 4, 8 or 12, an [`Ack::None`] that is 1, 2, 4 or above
-/// 7, or an [`Item::Cut`] of no bits, of more than 49, or of more than its count.
+/// An item that no trace has: an address of a request that isn't 0, 4, 8 or 12, an [`Ack::None`] that is 1, 2, 4 or
+/// above 7, or an [`Item::Cut`] of no bits, of more than 49, or of more than its count.
 #[derive(Clone, Copy, Debug, PartialEq, Eq)]
 pub struct NotAnItem(pub Item);
 

@@ -3,8 +3,8 @@
 /// The clocks of a data phase: a word, and its parity bit.
 pub(crate) const DATA_CLOCKS: u32 = 33;
 
-/// How far a target is in a data phase inside which the line failed. A clock that failed was made or wasn't. The host drove
-/// one level in all of these, so that the parity of what the target saw follows from how many clocks it saw.
+/// How far a target is in a data phase inside which the line failed. A clock that failed was made or wasn't. The host
+/// drove one level in all of these, so that the parity of what the target saw follows from how many clocks it saw.
 #[derive(Clone, Copy, Debug, PartialEq, Eq)]
 pub(crate) struct Cut {
     /// How many clocks were certainly made.
@@ -23,16 +23,16 @@ fn parity(bits: u64, count: u32) -> u64 {
 }
 
 impl Cut {
-    /// The line failed once, after so many clocks of the data phase with these bits. If it says that all were made, the last
-    /// one was or wasn't, which is less than what it says.
+    /// The line failed once, after so many clocks of the data phase with these bits. If it says that all were made, the
+    /// last one was or wasn't, which is less than what it says.
     pub fn new(bits: u64, made: u32) -> Cut {
         let made = made.min(DATA_CLOCKS - 1);
         Cut { made, parity: parity(bits, made), level: bits >> made & 1, failed: 1 }
     }
 
-    /// The bits after which the target drops the data phase, and their number. However many of the clocks that failed were
-    /// made, the parity of the whole is wrong. One of these bits decides that. It is the last one that the target takes into
-    /// the data phase in any case, and the others have the level of the clocks that failed.
+    /// The bits after which the target drops the data phase, and their number. However many of the clocks that failed
+    /// were made, the parity of the whole is wrong. One of these bits decides that. It is the last one that the target
+    /// takes into the data phase in any case, and the others have the level of the clocks that failed.
     pub fn rest(&self) -> (u64, u32) {
         let count = DATA_CLOCKS - self.made;
         let place = count.saturating_sub(self.failed + 1);
@@ -55,8 +55,8 @@ mod tests {
     use super::*;
     use std::vec::Vec;
 
-    /// The parity of each data phase that a target may have seen: the bits of each drive up to one that failed, which was
-    /// made or wasn't. Those that were complete before are left out.
+    /// The parity of each data phase that a target may have seen: the bits of each drive up to one that failed, which
+    /// was made or wasn't. Those that were complete before are left out.
     fn seen(drives: &[(u64, u32)], rest: (u64, u32)) -> Vec<u64> {
         let ways = 0..1_u32 << drives.len();
         let phases = ways.filter_map(|way| {

@@ -242,8 +242,8 @@ impl<L: Line> Host<L> {
 
     /// Whether writes at consecutive addresses go in bursts, in which the request of the next write confirms the one
     /// before: a word takes one request in place of two. A debug port with a write buffer may discard a write that was
-    /// confirmed so, and the report may be wrong. Without that each write is confirmed by a read of RDBUFF, and reads at
-    /// consecutive addresses go in bursts.
+    /// confirmed so, and the report may be wrong. Without that each write is confirmed by a read of RDBUFF, and reads
+    /// at consecutive addresses go in bursts.
     #[must_use]
     pub fn bursts(mut self, allowed: bool) -> Host<L> {
         self.driver.bursts = allowed;

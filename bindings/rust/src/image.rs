@@ -121,16 +121,16 @@ fn check_end(addr: u32, len: usize) -> Result<(), Refused> {
     Ok(())
 }
 
-/// Images are made of runs over the open target, of 64 words each, in the order of their addresses. They take some 2 kB of
-/// stack.
+/// Images are made of runs over the open target, of 64 words each, in the order of their addresses. They take some 2 kB
+/// of stack.
 impl<L: Line> Session<'_, L> {
     /// Writes bytes to memory. Of a word that is written in part, at either end, the other bytes are read before.
     ///
     /// # Errors
     ///
-    /// [`ImageError::Stopped`] with the error of the run, as of [`Session::run`], or with [`Refused::PastEnd`]. The first
-    /// `done` bytes were written; of those after them some may be. A bus error ends it in any case. To go on, load the
-    /// bytes from `done` on: a word that was in flight is then written again.
+    /// [`ImageError::Stopped`] with the error of the run, as of [`Session::run`], or with [`Refused::PastEnd`]. The
+    /// first `done` bytes were written; of those after them some may be. A bus error ends it in any case. To go on,
+    /// load the bytes from `done` on: a word that was in flight is then written again.
     pub fn load(&mut self, addr: u32, data: &[u8]) -> Result<(), ImageError<L::Error>> {
         self.each_piece(addr, data.len(), |session, piece, done| {
             let mut bytes = [0; 4 * WORDS];

@@ -84,8 +84,8 @@
 //! the archive is searched where a release and where the repository have it. The archive is for x86-64 and aarch64
 //! Linux; it needs `memcpy`, `memmove` and `memset`.
 //!
-//! The archive has to be the one of this version: what first makes a run, a target or a decoder compares its version and
-//! each field of its structs with the crate's. It panics if they differ, before a struct is passed.
+//! The archive has to be the one of this version: what first makes a run, a target or a decoder compares its version
+//! and each field of its structs with the crate's. It panics if they differ, before a struct is passed.
 //!
 //! # Threads
 //!

@@ -36,10 +36,10 @@ impl<E: core::error::Error + 'static> core::error::Error for Broken<E> {
 /// [`sample_bits`](Line::sample_bits) or [`flush`](Line::flush), so that a request costs one exchange with the probe. A
 /// host calls nothing else.
 ///
-/// A clock that fails may have been made or not. A line that fails inside a write's data phase leaves the target there: the
-/// next run of the same host drives the rest of it so that the parity is wrong, and the target drops the word. That is
-/// certain unless the line fails in that phase again, at its 32nd bit. A line that queues makes each of its calls as a whole
-/// or not at all, also where the queue fails.
+/// A clock that fails may have been made or not. A line that fails inside a write's data phase leaves the target there:
+/// the next run of the same host drives the rest of it so that the parity is wrong, and the target drops the word. That
+/// is certain unless the line fails in that phase again, at its 32nd bit. A line that queues makes each of its calls as
+/// a whole or not at all, also where the queue fails.
 ///
 /// A call that fails leaves no reply unread: a reply to it that still comes is dropped before the next clock.
 /// Otherwise each later level would be that of an earlier clock. A line that can't be brought into step again fails
@@ -61,8 +61,8 @@ pub trait Line {
     /// Makes one clock in which the host doesn't drive SWDIO. Returns its level from before the rising edge.
     fn sample(&mut self) -> Result<bool, Self::Error>;
 
-    /// Makes `count` clocks, at most 64, in which the host drives the low bits of `bits`, the least significant first. Where
-    /// it fails, the error says how many clocks were made before.
+    /// Makes `count` clocks, at most 64, in which the host drives the low bits of `bits`, the least significant first.
+    /// Where it fails, the error says how many clocks were made before.
     fn drive_bits(&mut self, bits: u64, count: u32) -> Result<(), Broken<Self::Error>> {
         for made in 0..count {
             self.drive(bits >> made & 1 == 1).map_err(|error| Broken { made, error })?;

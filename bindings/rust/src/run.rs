@@ -49,8 +49,8 @@ impl Step {
     }
 }
 
-/// The steps of a cue that are still to be made. Those with more than 64 clocks have one level throughout, and are made in
-/// parts; those without a clock aren't made.
+/// The steps of a cue that are still to be made. Those with more than 64 clocks have one level throughout, and are made
+/// in parts; those without a clock aren't made.
 #[derive(Clone, Copy, Debug)]
 struct Steps([Step; 5]);
 
@@ -206,8 +206,9 @@ pub struct Run<'a> {
 }
 
 impl<'a> Run<'a> {
-    /// Makes a run that opens the target and performs the accesses in order, each once. Each write is confirmed by a read
-    /// of RDBUFF, and reads at consecutive addresses go in bursts. `tries` are as of [`Host::new`](crate::Host::new).
+    /// Makes a run that opens the target and performs the accesses in order, each once. Each write is confirmed by a
+    /// read of RDBUFF, and reads at consecutive addresses go in bursts. `tries` are as of
+    /// [`Host::new`](crate::Host::new).
     ///
     /// # Errors
     ///
@@ -252,8 +253,8 @@ impl<'a> Run<'a> {
         self.steps.now()
     }
 
-    /// Takes what a step showed once all of it was made: the levels of a [`Step::Sample`], of which bits above its clocks
-    /// are ignored. Of another step the levels are ignored. Does nothing where the run has ended.
+    /// Takes what a step showed once all of it was made: the levels of a [`Step::Sample`], of which bits above its
+    /// clocks are ignored. Of another step the levels are ignored. Does nothing where the run has ended.
     pub fn made(&mut self, levels: u64) {
         let Some(step) = self.steps.now() else {
             return;
@@ -271,8 +272,8 @@ impl<'a> Run<'a> {
 
     /// Stores the transactions that come next, and returns them: as many as there is room for, at most
     /// [`MOST_PLANNED`]. As long as each is acknowledged with OK and each word arrives with right parity, the steps are
-    /// those of exactly these, whatever words are read. They end behind a read whose word decides what follows, and behind
-    /// the last access. There are none where no request comes next. The first one is that of the step at hand.
+    /// those of exactly these, whatever words are read. They end behind a read whose word decides what follows, and
+    /// behind the last access. There are none where no request comes next. The first one is that of the step at hand.
     ///
     /// A probe that makes whole transactions, as by `DAP_Transfer` of CMSIS-DAP, is told of as many of them as a packet
     /// takes. Where it stops at the first that isn't OK, its reply has the levels of the steps up to there.
@@ -292,9 +293,9 @@ impl<'a> Run<'a> {
         (self.steps, self.reply) = (Steps::of_cue(&cue), 0);
     }
 
-    /// Ends the run as [`End::Lost`](crate::End::Lost): the line failed inside the step, after so many of its clocks. The
-    /// next clock was made or wasn't, and no other was. Say 0 where the line makes a step as a whole or not at all. Does
-    /// nothing where the run has ended.
+    /// Ends the run as [`End::Lost`](crate::End::Lost): the line failed inside the step, after so many of its clocks.
+    /// The next clock was made or wasn't, and no other was. Say 0 where the line makes a step as a whole or not at all.
+    /// Does nothing where the run has ended.
     pub fn fail(&mut self, made: u32) {
         let cue = self.run.cue();
         match self.steps.now() {

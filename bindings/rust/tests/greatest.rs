@@ -7,8 +7,8 @@ use std::cell::Cell;
 use std::convert::Infallible;
 use swd::{block, Access, Answer, Broken, End, Error, Host, Line, Session, Slot, Target, MOST_ACCESSES};
 
-/// The requests of a list of writes in bursts: the opening, DRW for each, and in each kilobyte TAR before its first word
-/// and RDBUFF after its last one.
+/// The requests of a list of writes in bursts: the opening, DRW for each, and in each kilobyte TAR before its first
+/// word and RDBUFF after its last one.
 const REQUESTS: usize = 9 + MOST_ACCESSES + 2 * 256;
 
 fn line_with(marks: &[(usize, Mark)]) -> Damaged {

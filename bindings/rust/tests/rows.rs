@@ -178,8 +178,8 @@ fn worked_runs() {
     assert!(runs > 0);
 }
 
-// Nine requests of the opening, TAR and DRW, and RDBUFF behind each access, or at the end of a burst. A hundred words lie
-// in one kilobyte.
+// Nine requests of the opening, TAR and DRW, and RDBUFF behind each access, or at the end of a burst. A hundred words
+// lie in one kilobyte.
 #[test]
 fn bursts_are_of_reads_or_of_writes() {
     let writes = (0..100).map(|index| write(BASE + 4 * index, 1)).collect::<Vec<_>>();
@@ -221,8 +221,8 @@ fn runs_one_after_the_other() {
     assert_eq!(answers(&slots), words.map(Value));
 }
 
-// The acknowledgement behind the second write is lost. The target may still drive a data phase: the line is released for
-// 34 clocks.
+// The acknowledgement behind the second write is lost. The target may still drive a data phase: the line is released
+// for 34 clocks.
 #[test]
 fn the_lead_of_a_resumed_run_is_released() {
     let accesses = [write(BASE, WORD), write(BASE + 16, 1)];

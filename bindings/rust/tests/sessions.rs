@@ -65,7 +65,8 @@ fn words_and_lists_over_one_opening() {
     assert_eq!(line.memory().log.len(), 17);
 }
 
-// IHI 0031's DPIDR of an Arm debug port of version 1: revision 2, part ba, designer 23b. The session is open afterwards.
+// IHI 0031's DPIDR of an Arm debug port of version 1: revision 2, part ba, designer 23b. The session is open
+// afterwards.
 #[test]
 fn an_identification() {
     let mut line = line_with(&[]);
@@ -82,8 +83,8 @@ fn an_identification() {
     assert_eq!(line.memory().log.len(), 1);
 }
 
-// A target that was lost before is brought to rest by an opening, which reads DPIDR. One whose DPIDR has wrong parity, or
-// is never read, isn't identified.
+// A target that was lost before is brought to rest by an opening, which reads DPIDR. One whose DPIDR has wrong parity,
+// or is never read, isn't identified.
 #[test]
 fn an_identification_after_a_loss() {
     let mut line = line_with(&[(12, Mark::Deaf)]);
@@ -97,8 +98,8 @@ fn an_identification_after_a_loss() {
     }
 }
 
-// Requests 1, 3 and 6 of an opening read DPIDR and CTRL/STAT, before and after power is requested. An opening whose power
-// isn't acknowledged reads CTRL/STAT as requested: 50000000.
+// Requests 1, 3 and 6 of an opening read DPIDR and CTRL/STAT, before and after power is requested. An opening whose
+// power isn't acknowledged reads CTRL/STAT as requested: 50000000.
 #[test]
 fn how_far_an_opening_came() {
     let identified = Some(Identification { word: 0x2ba0_1477 });
@@ -295,8 +296,8 @@ fn no_other_word_is_written_wherever_the_line_fails() {
     }
 }
 
-// The line fails inside a data phase, and again while the rest of it is driven, but for the bit that decides there. If all
-// bits were made at first, the word was written.
+// The line fails inside a data phase, and again while the rest of it is driven, but for the bit that decides there. If
+// all bits were made at first, the word was written.
 #[test]
 fn no_other_word_is_written_where_the_line_fails_twice() {
     let opening = opening_clocks();
@@ -456,8 +457,8 @@ fn old_answers_are_no_answers() {
     assert_eq!((lost.answered, slots[0].answer(), slots[1].answer()), (0, None, None));
 }
 
-// Of the first list both slots have answers. None of them is left by a shorter list, one that is refused, or a run that is
-// resumed behind one answer.
+// Of the first list both slots have answers. None of them is left by a shorter list, one that is refused, or a run that
+// is resumed behind one answer.
 #[test]
 fn no_slot_keeps_an_answer_of_another_list() {
     let long = [Access::write(BASE, 1), Access::write(BASE + 4, 2)];
@@ -659,7 +660,8 @@ fn bits_above_those_that_were_sampled() {
     assert_eq!(session.read(BASE), Ok(WORD));
 }
 
-/// A probe that makes the bits of a data phase and then says that it failed after so many, as often as there are numbers.
+/// A probe that makes the bits of a data phase and then says that it failed after so many, as often as there are
+/// numbers.
 struct Unconfirmed {
     target: Target<PlainMemory>,
     /// The data phases that are made before the first failure.

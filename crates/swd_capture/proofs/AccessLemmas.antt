@@ -156,3 +156,41 @@ observer_text_more_idle (suc i) n t h e =
     joined : (p i n : ℕ) → min (p + suc (i + n)) (2 ^ 64 - 1)
         ≡ min (min (p + suc i) (2 ^ 64 - 1) + n) (2 ^ 64 - 1)
     joined p i n = omega arith
+
+-- two lists of items lead an observer alike, and show the same
+pub record AreCaptureAlike (a b : List Item) (t : TraceObserver) : Type 0 where
+  pub leads : trace_observer_after a t ≡ trace_observer_after b t
+  pub shows : observer_text_of_items a t ≡ observer_text_of_items b t
+
+-- equal lists do
+pub capture_alike_same : (a b : List Item) (t : TraceObserver) → a ≡ b → AreCaptureAlike a b t
+capture_alike_same a b t e = record {
+  leads = ap (λ x. trace_observer_after x t) e;
+  shows = ap (λ x. observer_text_of_items x t) e;
+}
+
+-- one after the other
+pub capture_alike_joins : (a b c : List Item) (t : TraceObserver) → AreCaptureAlike a b t → AreCaptureAlike b c t
+    → AreCaptureAlike a c t
+capture_alike_joins a b c t p q = record { leads = p.leads ∙ q.leads; shows = p.shows ∙ q.shows }
+
+-- behind the same items
+pub capture_alike_behind : (front a b : List Item) (t : TraceObserver)
+    → AreCaptureAlike a b (trace_observer_after front t)
+    → AreCaptureAlike (front ++ a) (front ++ b) t
+capture_alike_behind front a b t p = record {
+  leads = observer_text_after_join front a t ∙ p.leads ∙ sym (observer_text_after_join front b t);
+  shows = observer_text_joins front a t ∙ ap (λ x. observer_text_of_items front t ++ x) p.shows
+      ∙ sym (observer_text_joins front b t);
+}
+
+-- before the same items
+pub capture_alike_before : (a b back : List Item) (t : TraceObserver) → AreCaptureAlike a b t
+    → AreCaptureAlike (a ++ back) (b ++ back) t
+capture_alike_before a b back t p = record {
+  leads = observer_text_after_join a back t ∙ ap (trace_observer_after back) p.leads
+      ∙ sym (observer_text_after_join b back t);
+  shows = observer_text_joins a back t ∙ ap (λ x. x ++ observer_text_of_items back (trace_observer_after a t)) p.shows
+      ∙ ap (λ o. observer_text_of_items b t ++ observer_text_of_items back o) p.leads
+      ∙ sym (observer_text_joins b back t);
+}

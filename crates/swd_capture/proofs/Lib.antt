@@ -5,3 +5,4 @@ pub mod TextLemmas
 pub mod TellerLemmas
 pub mod AccessLemmas
 pub mod TraceLemmas
+pub mod HeldLemmas

@@ -1,6 +1,6 @@
 -- Laws of what is printed of parts, one after the other.
 use Rattle.std.proofs.Common.{◌≡◌, ℕ, zero, suc, ◌+◌, ◌-◌, ◌^◌, ◌<◌, min, Bool, true, false, List, [], ◌∷◌, ◌++◌}
-use Rattle.std.proofs.Common.{length, map, Option, None, replicate, refl, sym, ap, subst, ◌∙◌, append_assoc, arith}
+use Rattle.std.proofs.Common.{length, map, Option, None, replicate, refl, sym, ap, ◌∙◌, append_assoc, arith}
 use Rattle.std.specs.Prelude.{◌==◌, if◌then◌else◌}
 use Rattle.std.proofs.lemmas.List.{append-nil, length-append}
 use Rattle.swd_trace.specs.declared.item.Item.{Item}
@@ -12,7 +12,8 @@ use Rattle.swd_resync.specs.AsItems.{resync_part_items, resync_items}
 use Rattle.swd_resync.proofs.ItemLemmas.{resync_items_part_more}
 use Rattle.swd_port.specs.declared.select.Select.{Select}
 use Rattle.swd_observer.specs.declared.trace.TraceObserver.{TraceObserver}
-use Rattle.swd_observer.specs.Traces.{trace_observer_step, trace_observer_after, observed_shown_at}
+use Rattle.swd_observer.specs.Traces.{trace_observer_step, trace_observer_after, trace_observer_from, observed_shown_at}
+use Rattle.swd_observer.specs.declared.trace.TraceStart.{TraceStart}
 use Rattle.swd_capture.specs.Accesses.{observer_text_of_items, observer_text_shown, observer_text_reported}
 use Rattle.swd_observer.specs.Observing.{observed_last_accesses}
 use Rattle.swd_capture.proofs.AccessLemmas.{observer_text_joins, observer_text_after_join}
@@ -22,12 +23,10 @@ use Rattle.swd_capture.specs.declared.printed.Printed.TheVariants.{Lines, Counts
 use Rattle.swd_capture.specs.Places.{capture_place_behind}
 use Rattle.swd_capture.specs.Gaps.{CaptureRun, capture_run_none, capture_run_items, capture_run_after, capture_due_at}
 use Rattle.swd_capture.specs.Gaps.{capture_run_behind, capture_due, capture_due_items, capture_waiting}
-use Rattle.swd_capture.specs.declared.watching.Watching.{Watching}
-use Rattle.swd_capture.specs.Tellers.{CaptureShows}
 use Rattle.swd_capture.specs.Names.{capture_select_after, capture_select_from, capture_select_behind}
 use Rattle.swd_capture.specs.Tables.{capture_part_counted, capture_count_in_row}
 use Rattle.swd_capture.specs.Printing.{capture_printed_entry, capture_junk_parts, capture_line_behind}
-use Rattle.swd_capture.specs.Printing.{capture_lines_behind, capture_observer_of, capture_printed_parts}
+use Rattle.swd_capture.specs.Printing.{capture_lines_behind, capture_printed_parts}
 use Rattle.swd_capture.specs.Printing.{capture_end_row_printed}
 
 -- one more part, and the place behind it
@@ -81,27 +80,25 @@ run_more : (run : CaptureRun) (parts : List Part) (part : Part)
 run_more run [] part = refl
 run_more run (p ∷ parts) part = run_more (capture_run_after run p) parts part
 
+-- of the first parts of a capture
+pub capture_due_items_more : (parts : List Part) (part : Part) → capture_due_items (parts ++ part ∷ [])
+    ≡ capture_due_items parts ++ capture_due_at (capture_waiting parts) part
+capture_due_items_more parts part = due_more capture_run_none parts part
+
 -- what waits after one part more
 pub capture_waiting_more : (parts : List Part) (part : Part)
     → capture_waiting (parts ++ part ∷ []) ≡ capture_run_after (capture_waiting parts) part
 capture_waiting_more parts part = run_more capture_run_none parts part
 
 -- and the observer
-pub capture_observer_more : (made : Bool) (parts : List Part) (part : Part)
-    → trace_observer_after (capture_due_items (parts ++ part ∷ [])) (capture_observer_of made)
+pub capture_observer_more : (start : TraceStart) (parts : List Part) (part : Part)
+    → trace_observer_after (capture_due_items (parts ++ part ∷ [])) (trace_observer_from start)
     ≡ trace_observer_after (capture_due_at (capture_waiting parts) part)
-    (trace_observer_after (capture_due_items parts) (capture_observer_of made))
-capture_observer_more made parts part =
-    ap (λ i. trace_observer_after i (capture_observer_of made)) (due_more capture_run_none parts part)
+    (trace_observer_after (capture_due_items parts) (trace_observer_from start))
+capture_observer_more start parts part =
+    ap (λ i. trace_observer_after i (trace_observer_from start)) (due_more capture_run_none parts part)
     ∙ observer_text_after_join (capture_due_items parts) (capture_due_at (capture_waiting parts) part)
-    (capture_observer_of made)
-
--- what is shown of a part or an item is shown of an equal one
-pub capture_shows_same : {X : Type 0} (due : X → List Item) (run : X → CaptureRun) (one other : X) (old new : Watching)
-    (before after : List ℕ) → one ≡ other → CaptureShows (due other) (run other) old new before after
-    → CaptureShows (due one) (run one) old new before after
-capture_shows_same due run one other old new before after e h =
-    subst (λ x. CaptureShows (due x) (run x) old new before after) (sym e) h
+    (trace_observer_from start)
 
 -- and what is counted in a row
 pub capture_count_more : (row : ℕ) (parts : List Part) (part : Part)
@@ -130,16 +127,16 @@ pub capture_printed_more : (printed : Printed) (parts : List Part) (part : Part)
     ++ capture_printed_entry printed parts part
 capture_printed_more (Lines form) parts part = lines_more form [] parts part
 capture_printed_more Counts parts part = refl
-capture_printed_more (Accesses made) parts part =
-    ap (λ i. observer_text_of_items i (capture_observer_of made)) (due_more capture_run_none parts part)
+capture_printed_more (Accesses start) parts part =
+    ap (λ i. observer_text_of_items i (trace_observer_from start)) (due_more capture_run_none parts part)
     ∙ observer_text_joins (capture_due_items parts) (capture_due_at (capture_waiting parts) part)
-    (capture_observer_of made)
+    (trace_observer_from start)
 
 -- the output for no parts is empty
 pub capture_printed_none : (printed : Printed) → capture_printed_parts printed [] ≡ []
 capture_printed_none (Lines form) = refl
 capture_printed_none Counts = refl
-capture_printed_none (Accesses made) = refl
+capture_printed_none (Accesses start) = refl
 
 -- ---- junk bits at once
 
@@ -222,36 +219,36 @@ due_at_junk parts (b ∷ bits) h =
     ∙ ap (λ x. capture_due_items parts ++ x) (first_junk (capture_waiting parts) b bits)
 
 -- the observer behind junk bits, as behind a skip that nothing belongs to
-pub capture_observer_at_junk : (made : Bool) (parts : List Part) (bits : List Bool) (n : ℕ) → length bits ≡ n
-    → 0 < n → trace_observer_after (capture_due_items (parts ++ capture_junk_parts bits)) (capture_observer_of made)
+pub capture_observer_at_junk : (start : TraceStart) (parts : List Part) (bits : List Bool) (n : ℕ) → length bits ≡ n
+    → 0 < n → trace_observer_after (capture_due_items (parts ++ capture_junk_parts bits)) (trace_observer_from start)
     ≡ trace_observer_after (replicate n (Junk false))
     (trace_observer_after (capture_run_items (capture_waiting parts))
-    (trace_observer_after (capture_due_items parts) (capture_observer_of made)))
-capture_observer_at_junk made parts bits n e some =
-    let before = trace_observer_after (capture_due_items parts) (capture_observer_of made) in
+    (trace_observer_after (capture_due_items parts) (trace_observer_from start)))
+capture_observer_at_junk start parts bits n e some =
+    let before = trace_observer_after (capture_due_items parts) (trace_observer_from start) in
     let waited = trace_observer_after (capture_run_items (capture_waiting parts)) before in
-    ap (λ i. trace_observer_after i (capture_observer_of made)) (due_at_junk parts bits (omega arith))
+    ap (λ i. trace_observer_after i (trace_observer_from start)) (due_at_junk parts bits (omega arith))
     ∙ observer_text_after_join (capture_due_items parts) (capture_run_items (capture_waiting parts) ++ map Junk bits)
-    (capture_observer_of made)
+    (trace_observer_from start)
     ∙ observer_text_after_join (capture_run_items (capture_waiting parts)) (map Junk bits) before
     ∙ after_any_junk bits waited ∙ ap (λ n. trace_observer_after (replicate n (Junk false)) waited) e
 
 -- and what they show
-pub capture_accesses_at_junk : (made : Bool) (parts : List Part) (bits : List Bool) (n : ℕ) → length bits ≡ n
-    → 0 < n → observer_text_of_items (capture_due_items (parts ++ capture_junk_parts bits)) (capture_observer_of made)
-    ≡ observer_text_of_items (capture_due_items parts) (capture_observer_of made)
+pub capture_accesses_at_junk : (start : TraceStart) (parts : List Part) (bits : List Bool) (n : ℕ) → length bits ≡ n
+    → 0 < n → observer_text_of_items (capture_due_items (parts ++ capture_junk_parts bits)) (trace_observer_from start)
+    ≡ observer_text_of_items (capture_due_items parts) (trace_observer_from start)
     ++ (observer_text_of_items (capture_run_items (capture_waiting parts))
-    (trace_observer_after (capture_due_items parts) (capture_observer_of made))
+    (trace_observer_after (capture_due_items parts) (trace_observer_from start))
     ++ observer_text_of_items (replicate n (Junk false))
     (trace_observer_after (capture_run_items (capture_waiting parts))
-    (trace_observer_after (capture_due_items parts) (capture_observer_of made))))
-capture_accesses_at_junk made parts bits n e some =
-    let before = trace_observer_after (capture_due_items parts) (capture_observer_of made) in
+    (trace_observer_after (capture_due_items parts) (trace_observer_from start))))
+capture_accesses_at_junk start parts bits n e some =
+    let before = trace_observer_after (capture_due_items parts) (trace_observer_from start) in
     let waits = capture_run_items (capture_waiting parts) in
     let waited = trace_observer_after waits before in
-    ap (λ i. observer_text_of_items i (capture_observer_of made)) (due_at_junk parts bits (omega arith))
-    ∙ observer_text_joins (capture_due_items parts) (waits ++ map Junk bits) (capture_observer_of made)
-    ∙ ap (λ x. observer_text_of_items (capture_due_items parts) (capture_observer_of made) ++ x)
+    ap (λ i. observer_text_of_items i (trace_observer_from start)) (due_at_junk parts bits (omega arith))
+    ∙ observer_text_joins (capture_due_items parts) (waits ++ map Junk bits) (trace_observer_from start)
+    ∙ ap (λ x. observer_text_of_items (capture_due_items parts) (trace_observer_from start) ++ x)
     (observer_text_joins waits (map Junk bits) before
     ∙ ap (λ x. observer_text_of_items waits before ++ x)
     (any_junk_shows bits waited ∙ ap (λ n. observer_text_of_items (replicate n (Junk false)) waited) e))
@@ -289,9 +286,9 @@ capture_count_at_junk row parts bits n e =
     ∙ ap (λ m. capture_count_in_row row parts + m) (junk_count row bits ∙ ap (one_if (83 == row)) e)
 
 -- the row of the accesses that nothing confirms
-pub capture_later_row : (made : Bool) (parts : List Part) (row : ℕ) → (row ≡ 0 → ⊥)
-    → capture_end_row_printed (Accesses made) parts row
+pub capture_later_row : (start : TraceStart) (parts : List Part) (row : ℕ) → (row ≡ 0 → ⊥)
+    → capture_end_row_printed (Accesses start) parts row
     ≡ observer_text_reported (observed_last_accesses (trace_observer_after (capture_run_items (capture_waiting parts))
-    (trace_observer_after (capture_due_items parts) (capture_observer_of made))).observer)
-capture_later_row made parts zero n = absurd (n refl)
-capture_later_row made parts (suc row) n = refl
+    (trace_observer_after (capture_due_items parts) (trace_observer_from start))).observer)
+capture_later_row start parts zero n = absurd (n refl)
+capture_later_row start parts (suc row) n = refl

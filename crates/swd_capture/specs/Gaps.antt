@@ -1,7 +1,7 @@
--- The items that parts count as for accesses. A transaction directly before a skip belongs to that gap, with the idle
--- cycles between: a lost bit often shows only behind the transaction that it damaged. So a transaction waits for the
--- next part that isn't idle cycles. This is the project's choice.
-use Rattle.std.specs.Prelude.{ℕ, ◌+◌, false, List, [], ◌∷◌, ◌++◌, length, replicate, Option, Some, None}
+-- The items that parts count as, for accesses and for a check. A transaction directly before a skip belongs to that
+-- gap, with the idle cycles between: a lost bit often shows only behind the transaction that it damaged. So a
+-- transaction waits for the next part that isn't idle cycles. This is the project's choice.
+use Rattle.std.specs.Prelude.{ℕ, ◌≡◌, ◌+◌, ◌-◌, ◌^◌, List, [], ◌∷◌, ◌++◌, length, min, Option, Some, None}
 use Rattle.swd_trace.specs.declared.item.Item.{Item}
 use Rattle.swd_trace.specs.declared.item.Item.TheVariants.{Reset, Switch, Idle, Tx, Junk, Cut}
 use Rattle.swd_trace.specs.Held.{idle_items}
@@ -9,6 +9,8 @@ use Rattle.swd_trace.specs.Texts.{bits_of_items}
 use Rattle.swd_resync.specs.declared.part.Part.{Part}
 use Rattle.swd_resync.specs.declared.part.Part.TheVariants.{Item as Told, Phased, Skip}
 use Rattle.swd_resync.specs.AsItems.{resync_part_items}
+use Rattle.swd_capture.specs.declared.held_back.DueParts.{DueParts}
+use Rattle.swd_capture.specs.declared.held_back.HeldBack.{HeldBack}
 
 -- the transaction that waits, and the number of idle cycles behind it
 pub record CaptureRun : Type 0 where
@@ -47,24 +49,59 @@ capture_run_after run (Told item) = capture_run_after_item run item
 capture_run_after run (Phased tx) = capture_run_of (Phased tx)
 capture_run_after run (Skip n) = capture_run_none
 
--- the items that are due at idle cycles, at an item, and at a part
-abbrev pub capture_due_idle : Option Part → ℕ → List Item
-capture_due_idle None n = Idle n ∷ []
-capture_due_idle (Some part) n = []
+-- what is due, as one value, in the order of its fields: what waited, with its idle cycles, and a part
+abbrev pub capture_due_of_run : CaptureRun → Option Part → DueParts
+capture_due_of_run run part = record { held = run.part; idle = run.idle; part = part }
 
-abbrev pub capture_due_item : CaptureRun → Item → List Item
-capture_due_item run (Tx tx) = capture_run_items run
-capture_due_item run (Idle n) = capture_due_idle run.part n
-capture_due_item run (Reset n) = capture_run_items run ++ Reset n ∷ []
-capture_due_item run Switch = capture_run_items run ++ Switch ∷ []
-capture_due_item run (Junk b) = capture_run_items run ++ Junk b ∷ []
-capture_due_item run (Cut bits) = capture_run_items run ++ Cut bits ∷ []
+-- at idle cycles, at an item, at a skip, which takes with it what waits, and at a part
+abbrev pub capture_due_of_idle : Option Part → ℕ → DueParts
+capture_due_of_idle None n = capture_due_of_run capture_run_none (Some (Told (Idle n)))
+capture_due_of_idle (Some part) n = capture_due_of_run capture_run_none None
 
--- a skip takes with it what waits
+abbrev pub capture_due_of_item : CaptureRun → Item → DueParts
+capture_due_of_item run (Tx tx) = capture_due_of_run run None
+capture_due_of_item run (Idle n) = capture_due_of_idle run.part n
+capture_due_of_item run (Reset n) = capture_due_of_run run (Some (Told (Reset n)))
+capture_due_of_item run Switch = capture_due_of_run run (Some (Told Switch))
+capture_due_of_item run (Junk b) = capture_due_of_run run (Some (Told (Junk b)))
+capture_due_of_item run (Cut bits) = capture_due_of_run run (Some (Told (Cut bits)))
+
+abbrev pub capture_due_of_gap : CaptureRun → ℕ → DueParts
+capture_due_of_gap run n =
+    capture_due_of_run capture_run_none (Some (Skip (length (bits_of_items (capture_run_items run)) + n)))
+
+abbrev pub capture_due_of : CaptureRun → Part → DueParts
+capture_due_of run (Told item) = capture_due_of_item run item
+capture_due_of run (Phased tx) = capture_due_of_run run None
+capture_due_of run (Skip n) = capture_due_of_gap run n
+
+-- as items
+abbrev pub capture_items_with : List Item → Option Part → List Item
+capture_items_with items None = items
+capture_items_with items (Some part) = items ++ resync_part_items part
+
+abbrev pub capture_items_of_due : DueParts → List Item
+capture_items_of_due due = capture_items_with (capture_held_items due.held due.idle) due.part
+
 abbrev pub capture_due_at : CaptureRun → Part → List Item
-capture_due_at run (Told item) = capture_due_item run item
-capture_due_at run (Phased tx) = capture_run_items run
-capture_due_at run (Skip n) = replicate (length (bits_of_items (capture_run_items run)) + n) (Junk false)
+capture_due_at run part = capture_items_of_due (capture_due_of run part)
+
+-- what waits is held, and its idle cycles are counted up to 2^64 - 1
+pub record IsHeldBack (run : CaptureRun) (held : HeldBack) : Type 0 where
+  pub part : held.part ≡ run.part
+  pub idle : held.idle ≡ min run.idle (2 ^ 64 - 1)
+
+-- what is due, with idle cycles and the bits of a skip counted up to 2^64 - 1
+abbrev pub capture_part_capped : Option Part → Option Part
+capture_part_capped None = None
+capture_part_capped (Some (Told item)) = Some (Told item)
+capture_part_capped (Some (Phased tx)) = Some (Phased tx)
+capture_part_capped (Some (Skip n)) = Some (Skip (min n (2 ^ 64 - 1)))
+
+pub record IsCaptureDue (whole due : DueParts) : Type 0 where
+  pub held : due.held ≡ whole.held
+  pub idle : due.idle ≡ min whole.idle (2 ^ 64 - 1)
+  pub part : due.part ≡ capture_part_capped whole.part
 
 -- what waits after some parts, and the items that are due
 abbrev pub capture_run_behind : CaptureRun → List Part → CaptureRun

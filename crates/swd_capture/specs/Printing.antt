@@ -12,9 +12,8 @@ use Rattle.swd_resync.specs.PartTexts.{resync_part_line}
 use Rattle.swd_resync.specs.AsItems.{resync_items}
 use Rattle.swd_capture.specs.Gaps.{capture_due_at, capture_due_items, capture_run_items, capture_waiting}
 use Rattle.swd_port.specs.declared.select.Select.{Select}
-use Rattle.swd_observer.specs.declared.trace.TraceObserver.{TraceObserver}
 use Rattle.swd_observer.specs.Observing.{observed_last_accesses}
-use Rattle.swd_observer.specs.Traces.{trace_observer_after, trace_observer_made, trace_observer_unknown}
+use Rattle.swd_observer.specs.Traces.{trace_observer_after, trace_observer_from}
 use Rattle.swd_capture.specs.Accesses.{observer_text_of_items, observer_text_reported}
 use Rattle.swd_capture.specs.declared.printed.Printed.{Printed}
 use Rattle.swd_capture.specs.declared.printed.Printed.TheVariants.{Lines, Counts, Accesses}
@@ -62,26 +61,21 @@ capture_lines_behind form before (part ∷ parts) =
     capture_line_behind form (resync_items before) part
     ++ capture_lines_behind form (before ++ part ∷ []) parts
 
--- the observer before the first part: of a target in its reset state, or of one of which nothing is known
-abbrev pub capture_observer_of : Bool → TraceObserver
-capture_observer_of true = trace_observer_made
-capture_observer_of false = trace_observer_unknown
-
 -- the output for a part after others, which is due as soon as the part is decided
 abbrev pub capture_printed_entry : Printed → List Part → Part → List ℕ
 capture_printed_entry (Lines form) before part = capture_line_behind form (resync_items before) part
 capture_printed_entry Counts before part = []
-capture_printed_entry (Accesses made) before part =
+capture_printed_entry (Accesses start) before part =
     observer_text_of_items (capture_due_at (capture_waiting before) part)
-    (trace_observer_after (capture_due_items before) (capture_observer_of made))
+    (trace_observer_after (capture_due_items before) (trace_observer_from start))
 
 -- The output for the first parts of a capture, while more may follow. Places and SELECT are those of a trace with the
 -- items that the parts are, accesses those of a trace with the items that they count as for accesses.
 abbrev pub capture_printed_parts : Printed → List Part → List ℕ
 capture_printed_parts (Lines form) parts = capture_lines_behind form [] parts
 capture_printed_parts Counts parts = []
-capture_printed_parts (Accesses made) parts =
-    observer_text_of_items (capture_due_items parts) (capture_observer_of made)
+capture_printed_parts (Accesses start) parts =
+    observer_text_of_items (capture_due_items parts) (trace_observer_from start)
 
 -- junk bits as parts
 abbrev pub capture_junk_parts : List Bool → List Part
@@ -92,17 +86,17 @@ capture_junk_parts bits = map Told (map Junk bits)
 abbrev pub capture_row_count : Printed → ℕ
 capture_row_count (Lines form) = 0
 capture_row_count Counts = 86
-capture_row_count (Accesses made) = 2
+capture_row_count (Accesses start) = 2
 
 abbrev pub capture_end_row_printed : Printed → List Part → ℕ → List ℕ
 capture_end_row_printed (Lines form) parts row = []
 capture_end_row_printed Counts parts row = capture_row_printed parts row
-capture_end_row_printed (Accesses made) parts zero =
+capture_end_row_printed (Accesses start) parts zero =
     observer_text_of_items (capture_run_items (capture_waiting parts))
-    (trace_observer_after (capture_due_items parts) (capture_observer_of made))
-capture_end_row_printed (Accesses made) parts (suc row) =
+    (trace_observer_after (capture_due_items parts) (trace_observer_from start))
+capture_end_row_printed (Accesses start) parts (suc row) =
     observer_text_reported (observed_last_accesses (trace_observer_after (capture_run_items (capture_waiting parts))
-    (trace_observer_after (capture_due_items parts) (capture_observer_of made))).observer)
+    (trace_observer_after (capture_due_items parts) (trace_observer_from start))).observer)
 
 -- the first `n` of these rows
 abbrev pub capture_end_rows_printed : Printed → List Part → ℕ → List ℕ

@@ -1,12 +1,13 @@
 //! Properties of the output. The functions do nothing: their contracts state the properties.
-ghost use Rattle.std.specs.Prelude.{◌≡◌, ◌<◌, ◌++◌, ℕ, Bool, List, map};
+ghost use Rattle.std.specs.Prelude.{◌≡◌, ◌<◌, ◌++◌, ℕ, List, map};
 ghost use Rattle.swd_trace.specs.declared.item.Item.{Item};
 ghost use Rattle.swd_capture.specs.declared.printed.Printed.TheVariants.{Accesses};
 ghost use Rattle.swd_capture.specs.Accesses.{observer_text_of_items, observer_text_reported};
-ghost use Rattle.swd_capture.specs.Printing.{capture_observer_of, capture_printout};
+ghost use Rattle.swd_capture.specs.Printing.{capture_printout};
 ghost use Rattle.swd_observer.specs.declared.trace.TraceObserver.{TraceObserver};
 ghost use Rattle.swd_observer.specs.Observing.{observed_last_accesses, observer_unknown};
-ghost use Rattle.swd_observer.specs.Traces.{trace_observer_after};
+ghost use Rattle.swd_observer.specs.Traces.{trace_observer_after, trace_observer_from};
+ghost use Rattle.swd_observer.specs.declared.trace.TraceStart.{TraceStart};
 ghost use Rattle.swd_resync.specs.AsItems.{resync_part_items};
 ghost use Rattle.swd_resync.specs.declared.part.Part.{Part};
 ghost use Rattle.swd_resync.specs.declared.part.Part.TheVariants.{Item as Told, Skip};
@@ -27,7 +28,7 @@ pub fn skips_are_forgotten()
 /// States that what is printed of the accesses of a trace's items is what an observer shows of them: without a skip no
 /// transaction belongs to a gap.
 pub fn traces_are_observed()
-    ensures { (made : Bool) (items : List Item) → capture_printout (Accesses made) (map Told items)
-        ≡ observer_text_of_items items (capture_observer_of made) ++ observer_text_reported
-        (observed_last_accesses (trace_observer_after items (capture_observer_of made)).observer) }
+    ensures { (start : TraceStart) (items : List Item) → capture_printout (Accesses start) (map Told items)
+        ≡ observer_text_of_items items (trace_observer_from start) ++ observer_text_reported
+        (observed_last_accesses (trace_observer_after items (trace_observer_from start)).observer) }
 {}

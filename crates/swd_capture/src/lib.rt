@@ -4,6 +4,7 @@
 
 mod access_line;
 mod flags;
+mod held_back;
 mod junk_line;
 mod laws;
 mod names;
@@ -12,6 +13,7 @@ mod table;
 mod teller;
 mod watching;
 
+pub use held_back::{DueParts, HeldBack};
 pub use laws::{rows_are_named_by_kind, skips_are_forgotten, traces_are_observed};
 pub use printed::{LineForm, Printed};
 pub use table::ROWS;

@@ -1,5 +1,7 @@
 //! The forms of output.
 
+use swd_observer::TraceStart;
+
 /// The form of a listing line.
 #[derive(Clone, Copy, Debug, PartialEq, Eq)]
 pub struct LineForm {
@@ -19,7 +21,7 @@ pub enum Printed {
     Counts,
     /// A line for each access of the target's memory that the parts show.
     Accesses {
-        /// Whether the target begins in its reset state. Otherwise nothing is known of it at first.
-        made: bool,
+        /// What is known of the target at first.
+        start: TraceStart,
     },
 }

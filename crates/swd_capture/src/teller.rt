@@ -6,7 +6,7 @@ ghost use Rattle.swd_resync.specs.AsItems.{resync_part_items};
 ghost use Rattle.swd_trace.specs.Texts.{bits_of_items};
 ghost use Rattle.swd_capture.specs.declared.printed.Printed.{Printed};
 ghost use Rattle.swd_capture.specs.Names.{capture_select_from};
-ghost use Rattle.swd_capture.specs.Printing.{capture_line_if, capture_observer_of, capture_part_line, capture_place_if};
+ghost use Rattle.swd_capture.specs.Printing.{capture_line_if, capture_part_line, capture_place_if};
 
 use crate::junk_line::Tens;
 use crate::names::{LONGEST_NAMED, push_named, selected_after};
@@ -132,17 +132,6 @@ pub(crate) fn place_behind_part(place: u64, part: &Part) -> u64
     }
 }
 
-// Returns the observer before the first part.
-fn observer_of(made: bool) -> TraceObserver
-    ensures { result ≡ capture_observer_of made }
-{
-    if made {
-        TraceObserver::of_made()
-    } else {
-        TraceObserver::new()
-    }
-}
-
 impl PartLines {
     ghost use Rattle.swd_bits.specs.BitLists.{tx_bits_of};
     ghost use Rattle.swd_capture.specs.Printing.{capture_junk_parts, capture_printed_entry, capture_printed_parts};
@@ -222,7 +211,9 @@ impl Teller {
         let telling = match printed {
             Printed::Lines(form) => Telling::Lines(PartLines::new(form)),
             Printed::Counts => Telling::Counts(Table::new()),
-            Printed::Accesses { made } => Telling::Accesses(Watching::new(observer_of(made))),
+            Printed::Accesses { start } => {
+                Telling::Accesses(Watching::new(TraceObserver::of(start)))
+            }
         };
         Teller { telling }
     }

@@ -1,20 +1,19 @@
 //! Prints what the parts of a capture show of the target's memory.
-ghost use Rattle.std.specs.Prelude.{◌≡◌, ◌+◌, ◌-◌, ◌*◌, ◌^◌, ◌≤◌, ◌++◌, ◌∷◌, [], ℕ, List, true, false, length, min};
+ghost use Rattle.std.specs.Prelude.{◌≡◌, ◌+◌, ◌-◌, ◌*◌, ◌≤◌, ◌++◌, ◌∷◌, [], true, false};
 ghost use Rattle.std.specs.Prelude.{replicate};
 ghost use Rattle.arrayvec.specs.ArrayString.{array_string_len};
 ghost use Rattle.swd_trace.specs.declared.item.Item.TheVariants.{Junk};
 ghost use Rattle.swd_resync.specs.AsItems.{resync_part_items};
 ghost use Rattle.swd_trace.specs.Held.{idle_items};
-ghost use Rattle.swd_trace.specs.Texts.{bits_of_items};
 ghost use Rattle.swd_resync.specs.declared.part.Part.TheVariants.{Phased, Skip};
-ghost use Rattle.swd_capture.specs.Gaps.{capture_held_items};
+ghost use Rattle.swd_capture.specs.Gaps.{capture_held_items, capture_items_of_due};
 ghost use Rattle.swd_observer.specs.Observing.{observed_last_accesses, observer_unknown};
 ghost use Rattle.swd_observer.specs.Traces.{trace_observer_after};
 ghost use Rattle.swd_capture.specs.Accesses.{observer_text_of_items, observer_text_of_gap, observer_text_shown};
 ghost use Rattle.swd_capture.specs.Accesses.{observer_text_reported, observer_text_of_access};
 
 use crate::access_line::{LONGEST, line_of, line_of_gap};
-use crate::teller::place_behind_part;
+use crate::held_back::{DueParts, HeldBack};
 use arrayvec::ArrayString;
 use swd_bits::Tx;
 use swd_observer::{Observations, ObservedAccess, Observer, ShownItem, TraceObserver};
@@ -155,31 +154,53 @@ fn watch_idle(observer: &mut TraceObserver, idle: u64)
     }
 }
 
-// Returns how many bits a part has, at most 2^64 - 1.
-fn held_len(held: Option<Part>, idle: u64) -> u64
-    ensures { result ≡ min (length (bits_of_items (capture_held_items held idle))) (2 ^ 64 - 1) }
+// Takes a transaction that waited, and the idle cycles behind it, and appends the lines of what it shows.
+fn watch_held<const N: usize>(
+    observer: &mut TraceObserver,
+    held: Option<Part>,
+    idle: u64,
+    text: &mut ArrayString<N>,
+)
+    requires { array_string_len text.old + LONGEST_SHOWN ≤ N }
+    ensures observer { observer.new ≡ trace_observer_after (capture_held_items held idle) observer.old }
+    ensures bytes { text.new.bytes ≡ text.old.bytes
+        ++ observer_text_of_items (capture_held_items held idle) observer.old }
+    ensures len { array_string_len text.new ≤ array_string_len text.old + LONGEST_SHOWN }
 {
-    match held {
-        None => 0,
-        Some(part) => place_behind_part(0, &part).saturating_add(idle),
+    if let Some(part) = held {
+        watch_now(observer, &part, text);
+        watch_idle(observer, idle);
     }
 }
 
-/// What the parts so far show of the target's memory. The last transaction waits for the next part that isn't idle
-/// cycles: if that is a skip, it belongs to the gap.
+// Takes what is due, and appends the lines of what it shows.
+fn watch_due<const N: usize>(
+    observer: &mut TraceObserver,
+    due: &DueParts,
+    text: &mut ArrayString<N>,
+)
+    requires { array_string_len text.old + 2 * LONGEST_SHOWN ≤ N }
+    ensures observer { observer.new ≡ trace_observer_after (capture_items_of_due due.now) observer.old }
+    ensures bytes { text.new.bytes ≡ text.old.bytes
+        ++ observer_text_of_items (capture_items_of_due due.now) observer.old }
+    ensures len { array_string_len text.new ≤ array_string_len text.old + 2 * LONGEST_SHOWN }
+{
+    watch_held(observer, due.held, due.idle, text);
+    if let Some(part) = due.part {
+        watch_now(observer, &part, text);
+    }
+}
+
+/// What the parts so far show of the target's memory.
 #[derive(Clone, Copy)]
 pub(crate) struct Watching {
     pub(crate) observer: TraceObserver,
-    // The transaction that waits.
-    held: Option<Part>,
-    // The number of idle cycles behind it, at most 2^64 - 1.
-    idle: u64,
+    held: HeldBack,
 }
 
 impl Watching {
-    ghost use Rattle.swd_capture.specs.Gaps.{CaptureRun, capture_due_at, capture_run_after, capture_run_none};
-    ghost use Rattle.swd_capture.specs.Gaps.{capture_run_items, capture_run_of, capture_run_idle, capture_due_idle};
-    ghost use Rattle.swd_capture.specs.Gaps.{capture_run_after_item, capture_due_item};
+    ghost use Rattle.swd_capture.specs.Gaps.{CaptureRun, IsHeldBack, capture_due_at, capture_run_after};
+    ghost use Rattle.swd_capture.specs.Gaps.{capture_run_none, capture_run_items};
     ghost use Rattle.swd_capture.specs.Tellers.{CaptureShows, IsCaptureWatching};
 
     /// Returns one that was given no parts.
@@ -189,8 +210,7 @@ impl Watching {
     {
         Watching {
             observer,
-            held: None,
-            idle: 0,
+            held: HeldBack::new(),
         }
     }
 
@@ -201,93 +221,21 @@ impl Watching {
             capture_run_none self.old self.new text.old.bytes text.new.bytes }
         ensures len { array_string_len text.new ≤ array_string_len text.old + LONGEST_SHOWN }
     {
-        match self.held {
-            None => self.idle = 0,
-            Some(part) => {
-                watch_now(&mut self.observer, &part, text);
-                watch_idle(&mut self.observer, self.idle);
-                self.held = None;
-                self.idle = 0;
-            }
-        }
-    }
-
-    // Takes a transaction.
-    fn hold<const N: usize>(&mut self, part: Part, text: &mut ArrayString<N>)
-        requires { array_string_len text.old + LONGEST_SHOWN ≤ N }
-        ensures shows { (run : CaptureRun) → IsCaptureWatching run self.old → CaptureShows (capture_run_items run)
-            (capture_run_of part) self.old self.new text.old.bytes text.new.bytes }
-        ensures len { array_string_len text.new ≤ array_string_len text.old + LONGEST_SHOWN }
-    {
-        self.flush(text);
-        self.held = Some(part);
-    }
-
-    // Takes idle cycles, which show nothing.
-    fn rest(&mut self, count: u64)
-        ensures { (run : CaptureRun) (text : List ℕ) → IsCaptureWatching run self.old
-            → CaptureShows (capture_due_idle run.part count) (capture_run_idle run.part run.idle count)
-            self.old self.new text text }
-    {
-        match self.held {
-            None => {
-                let _ = self.observer.watch(&Item::Idle(count));
-                self.idle = 0;
-            }
-            Some(_) => self.idle = self.idle.saturating_add(count),
-        }
+        let due = self.held.last();
+        watch_held(&mut self.observer, due.held, due.idle, text);
+        self.held = HeldBack::new();
     }
 
     /// Takes junk bits or skipped bits, which nothing that waits belongs to.
     pub(crate) fn lose<const N: usize>(&mut self, count: u64, text: &mut ArrayString<N>)
         requires { array_string_len text.old + LONGEST_SHOWN ≤ N }
         ensures held { self.new.held ≡ self.old.held }
-        ensures idle { self.new.idle ≡ self.old.idle }
         ensures observer { self.new.observer ≡ trace_observer_after (replicate count (Junk false)) self.old.observer }
         ensures bytes { text.new.bytes ≡ text.old.bytes
             ++ observer_text_of_items (replicate count (Junk false)) self.old.observer }
         ensures len { array_string_len text.new ≤ array_string_len text.old + LONGEST_SHOWN }
     {
         watch_skip(&mut self.observer, count, text);
-    }
-
-    // Takes a skip, and with it what waits.
-    fn skip<const N: usize>(&mut self, count: u64, text: &mut ArrayString<N>)
-        requires { array_string_len text.old + LONGEST_SHOWN ≤ N }
-        ensures shows { (run : CaptureRun) → IsCaptureWatching run self.old → CaptureShows
-            (capture_due_at run (Skip count)) capture_run_none self.old self.new text.old.bytes text.new.bytes }
-        ensures len { array_string_len text.new ≤ array_string_len text.old + LONGEST_SHOWN }
-    {
-        let all = held_len(self.held, self.idle).saturating_add(count);
-        watch_skip(&mut self.observer, all, text);
-        self.held = None;
-        self.idle = 0;
-    }
-
-    // Takes an item that isn't a transaction or idle cycles.
-    fn pass<const N: usize>(&mut self, item: &Item, text: &mut ArrayString<N>)
-        requires { array_string_len text.old + 2 * LONGEST_SHOWN ≤ N }
-        ensures shows { (run : CaptureRun) → IsCaptureWatching run self.old → CaptureShows
-            (capture_run_items run ++ item.now ∷ []) capture_run_none self.old self.new text.old.bytes text.new.bytes }
-        ensures len { array_string_len text.new ≤ array_string_len text.old + 2 * LONGEST_SHOWN }
-    {
-        self.flush(text);
-        watch_item(&mut self.observer, item, text);
-    }
-
-    // Takes an item of a stretch.
-    fn watch_item<const N: usize>(&mut self, item: &Item, text: &mut ArrayString<N>)
-        requires { array_string_len text.old + 2 * LONGEST_SHOWN ≤ N }
-        ensures shows { (run : CaptureRun) → IsCaptureWatching run self.old → CaptureShows
-            (capture_due_item run item.now) (capture_run_after_item run item.now)
-            self.old self.new text.old.bytes text.new.bytes }
-        ensures len { array_string_len text.new ≤ array_string_len text.old + 2 * LONGEST_SHOWN }
-    {
-        match item {
-            Item::Tx(tx) => self.hold(Part::Item(Item::Tx(*tx)), text),
-            Item::Idle(count) => self.rest(*count),
-            Item::Reset(_) | Item::Switch | Item::Junk(_) | Item::Cut(_) => self.pass(item, text),
-        }
     }
 
     /// Takes the next part of a capture, and appends the lines that are due then to `text`.
@@ -309,11 +257,8 @@ impl Watching {
             self.old self.new text.old.bytes text.new.bytes }
         ensures len { array_string_len text.new ≤ array_string_len text.old + 2 * LONGEST_SHOWN }
     {
-        match part {
-            Part::Item(item) => self.watch_item(item, text),
-            Part::Phased(tx) => self.hold(Part::Phased(*tx), text),
-            Part::Skip(count) => self.skip(*count, text),
-        }
+        let due = self.held.take(part);
+        watch_due(&mut self.observer, &due, text);
     }
 
     /// Appends the lines of what waits, for a capture that ends here.

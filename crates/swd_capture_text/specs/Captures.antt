@@ -1,10 +1,12 @@
 -- What is written for a trace text that is to be printed.
-use Rattle.std.specs.Prelude.{◌≡◌, ℕ, ◌^◌, ◌<◌, Bool, List, length, Option, Result, map}
+use Rattle.std.specs.Prelude.{◌≡◌, ℕ, ◌^◌, ◌<◌, Bool, List, length, Option, Result, map, if◌then◌else◌}
 use Rattle.swd_trace.specs.declared.item.Item.{Item}
 use Rattle.swd_trace.specs.Reading.{reading_of}
 use Rattle.swd_trace.specs.Texts.{bits_of_items, trace_text}
 use Rattle.swd_resync.specs.declared.part.Part.{Part}
 use Rattle.swd_resync.specs.declared.part.Part.TheVariants.{Item as Told}
+use Rattle.swd_observer.specs.declared.trace.TraceStart.{TraceStart}
+use Rattle.swd_observer.specs.declared.trace.TraceStart.TheVariants.{Any, Made}
 use Rattle.swd_text.specs.Outputs.{TextWrites}
 use Rattle.swd_text.specs.TextBits.{TextBitsAre, TextBitsBefore, TextBitsSoFar}
 use Rattle.swd_text.specs.declared.fault.TextFault.{TextFault}
@@ -46,9 +48,13 @@ Prints reading printed =
 abbrev pub print_items_output : Printed → List Item → List ℕ
 print_items_output printed items = capture_printout printed (map Told items)
 
+-- what is known of the target at first: its reset state, or nothing
+abbrev pub accesses_start : Bool → TraceStart
+accesses_start made = if made then Made else Any
+
 -- the lines of the accesses that items show, as `swd decode --accesses` prints them; with `made` as with `--made`
 abbrev pub accesses_text : Bool → List Item → List ℕ
-accesses_text made items = print_items_output (Accesses made) items
+accesses_text made items = print_items_output (Accesses (accesses_start made)) items
 
 abbrev pub accesses_printed : AccessesPrinter → List Item → List ℕ
 accesses_printed printer items = accesses_text printer.made items

@@ -4,6 +4,7 @@ ghost use Rattle.swd_capture_text.specs.Captures.{accesses_printed};
 use crate::items::print_items;
 use std::io::Write;
 use swd_capture::Printed;
+use swd_observer::TraceStart;
 use swd_text::ItemsPrinter;
 use swd_trace::Item;
 
@@ -18,6 +19,11 @@ impl ItemsPrinter for AccessesPrinter {
     ghost text = { accesses_printed };
 
     fn print<W: Write>(&self, writer: &mut W, items: &[Item]) -> Result<(), u64> {
-        print_items(Printed::Accesses { made: self.made }, writer, items)
+        let start = if self.made {
+            TraceStart::Made
+        } else {
+            TraceStart::Any
+        };
+        print_items(Printed::Accesses { start }, writer, items)
     }
 }

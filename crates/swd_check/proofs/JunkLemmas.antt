@@ -10,22 +10,22 @@ use Rattle.swd_trace.specs.declared.item.Item.TheVariants.{Junk}
 use Rattle.swd_resync.specs.declared.part.Part.{Part}
 use Rattle.swd_resync.specs.AsItems.{resync_items, resync_part_items}
 use Rattle.swd_capture.specs.Printing.{capture_junk_parts}
-use Rattle.swd_text.specs.Sinks.{sink_takes_nothing, sink_leads_join}
+use Rattle.swd_text.specs.Sinks.{sink_leads_join}
 use Rattle.swd_check.specs.declared.check.Check.{Check}
 use Rattle.swd_check.specs.Watched.{CheckHolds, CheckTakes}
 
--- the first of these bits were taken, and the others are left in a number
-pub record JunkTaken {A : Type 0} (junk : TxBits) (check now : Check A) (index bits : ℕ) : Type 0 where
+-- the first of these bits were taken, of which this holds, and the others are left in a number
+pub record JunkTaken (Led : List Bool → Type 0) (junk : TxBits) (index bits : ℕ) : Type 0 where
   pub done : List Bool
   pub all : done ++ low_bits (junk.len - index) bits ≡ tx_bits_of junk
-  pub takes : CheckTakes (map Junk done) check now
+  pub led : Led done
 
 -- none is taken at first
-pub check_junk_begins : {A : Type 0} (junk : TxBits) (check : Check A) → JunkTaken junk check check 0 junk.bits
-check_junk_begins junk check = record {
+pub check_junk_begins : (Led : List Bool → Type 0) (junk : TxBits) → Led [] → JunkTaken Led junk 0 junk.bits
+check_junk_begins Led junk led = record {
   done = [];
   all = let size : junk.len - 0 ≡ junk.len = omega arith in ap (λ n. low_bits n junk.bits) size;
-  takes = sink_takes_nothing CheckHolds check;
+  led = led;
 }
 
 low_bits_next : (n rest bits : ℕ) → n ≡ suc rest → low_bits n bits ≡ (bits % 2 == 1) ∷ low_bits rest (bits / 2)
@@ -33,17 +33,16 @@ unfolding low_bits
 low_bits_next n rest bits e = rw e refl
 
 -- one bit more
-pub check_junk_goes_on : {A : Type 0} (junk : TxBits) (check mid now : Check A) (index bits : ℕ) → index < junk.len
-    → JunkTaken junk check mid index bits → CheckTakes (Junk (bits % 2 == 1) ∷ []) mid now
-    → JunkTaken junk check now (index + 1) (bits / 2)
-check_junk_goes_on junk check mid now index bits inside h next =
+pub check_junk_goes_on : (Led Now : List Bool → Type 0) (junk : TxBits) (index bits : ℕ) → index < junk.len
+    → JunkTaken Led junk index bits → ((done : List Bool) → Led done → Now (done ++ (bits % 2 == 1) ∷ []))
+    → JunkTaken Now junk (index + 1) (bits / 2)
+check_junk_goes_on Led Now junk index bits inside h next =
     let b : Bool = bits % 2 == 1 in
     let size : junk.len - index ≡ suc (junk.len - (index + 1)) = omega (arith, inside) in record {
       done = h.done ++ b ∷ [];
       all = append_assoc h.done (b ∷ []) (low_bits (junk.len - (index + 1)) (bits / 2))
           ∙ ap (λ l. h.done ++ l) (sym (low_bits_next (junk.len - index) (junk.len - (index + 1)) bits size)) ∙ h.all;
-      takes = subst (λ l. CheckTakes l check now) (sym (map-append Junk h.done (b ∷ [])))
-          (sink_leads_join CheckHolds check mid now (map Junk h.done) (Junk b ∷ []) h.takes next);
+      led = next h.done h.led;
     }
 
 no_bits : (n bits : ℕ) → n ≡ 0 → low_bits n bits ≡ []
@@ -51,12 +50,19 @@ unfolding low_bits
 no_bits n bits e = rw e refl
 
 -- all are taken
-pub check_junk_ends : {A : Type 0} (junk : TxBits) (check now : Check A) (index bits : ℕ) → index ≡ junk.len
-    → JunkTaken junk check now index bits → CheckTakes (map Junk (tx_bits_of junk)) check now
-check_junk_ends junk check now index bits end h =
+pub check_junk_ends : (Led : List Bool → Type 0) (junk : TxBits) (index bits : ℕ) → index ≡ junk.len
+    → JunkTaken Led junk index bits → Led (tx_bits_of junk)
+check_junk_ends Led junk index bits end h =
     let none : junk.len - index ≡ 0 = omega (arith, end) in
-    subst (λ l. CheckTakes (map Junk l) check now) (sym (append-nil h.done)
-    ∙ ap (λ l. h.done ++ l) (sym (no_bits (junk.len - index) bits none)) ∙ h.all) h.takes
+    subst Led (sym (append-nil h.done)
+    ∙ ap (λ l. h.done ++ l) (sym (no_bits (junk.len - index) bits none)) ∙ h.all) h.led
+
+-- a check takes one junk bit more
+pub check_junk_more : {A : Type 0} (check mid now : Check A) (b : Bool) → CheckTakes (Junk b ∷ []) mid now
+    → (done : List Bool) → CheckTakes (map Junk done) check mid → CheckTakes (map Junk (done ++ b ∷ [])) check now
+check_junk_more check mid now b next done taken = subst (λ l. CheckTakes l check now)
+    (sym (map-append Junk done (b ∷ [])))
+    (sink_leads_join CheckHolds check mid now (map Junk done) (Junk b ∷ []) taken next)
 
 junk_as_items : (bits : List Bool) → resync_items (capture_junk_parts bits) ≡ map Junk bits
 junk_as_items [] = refl

@@ -1,3 +1,4 @@
 pub mod WatchLemmas
 pub mod JunkLemmas
 pub mod SaidLemmas
+pub mod CaptureLemmas

@@ -12,7 +12,7 @@ use Rattle.swd_bits.specs.Transactions.{IsTxEnd}
 use Rattle.swd_port.specs.declared.register.Register.{Register}
 use Rattle.swd_port.specs.declared.register.Register.TheVariants.{DrwRead, RdbuffRead}
 use Rattle.swd_port.specs.declared.state.Reply.TheVariants.{Okay}
-use Rattle.swd_port.specs.Port.{Port}
+use Rattle.swd_port.specs.Port.{port_register, Port}
 use Rattle.swd_port.specs.Answers.{is_exempt_register}
 use Rattle.swd_port.specs.Asking.{is_port_posted}
 use Rattle.swd_checker.specs.declared.near.Near.{Near}
@@ -35,6 +35,8 @@ use Rattle.swd_checker.specs.Alone.{WorldReturns, world_reading}
 use Rattle.swd_checker.proofs.AddedLemmas.{WorldIsAdded, accepted_confirmed}
 use Rattle.swd_checker.proofs.AddingLemmas.{post_drw, post_rdbuff, read_posted_some}
 use Rattle.swd_checker.proofs.LinkLemmas.{link_moves}
+use Rattle.swd_checker.proofs.GivenLemmas.{checked_kept_plain}
+use Rattle.swd_checker.proofs.DueLemmas.{world_names}
 use Rattle.swd_checker.proofs.NearLemmas.{near_of_has}
 use Rattle.swd_checker.proofs.ReachLemmas.{near_of_sound}
 use Rattle.swd_checker.proofs.TransactLemmas.{moves_read}
@@ -104,7 +106,10 @@ alone_steps clean tx w r word held v read is same which returns adds s t h d =
     let a : World = record (world_confirmed q.ap w) { awaits = false } in
     let asked : Asked = record { world = w; request = q; register = r; faults = 0; clean = clean } in
     let now_asked : Asked = record { world = a; request = q; register = r; faults = 0; clean = clean } in
-    let moved : CheckedHasMoved clean q word true s t = subst (λ e. CheckedTransacts clean e q s t) is h in
+    let plain : is_exempt_register (port_register s.target.select q) ≡ false =
+    ap is_exempt_register (world_names w s.target q d.target ∙ sym same) ∙ refusable r which in
+    let moved : CheckedHasMoved clean q word true s t = checked_kept_plain clean (Moved word true) q s t plain
+    (subst (λ e. CheckedTransacts clean e q s t) is h) in
     let reads : WorldsRead v a r (checked_near_of word) true =
     read_posted_some v a r (checked_near_of word) true held (Some held) refl (posted_register r which) returns.all
     (posts_alone w r q.ap held v which adds) in

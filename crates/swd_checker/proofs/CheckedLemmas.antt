@@ -273,3 +273,36 @@ checked_unseen clean Deaf c r a q seen b unseen undamaged named h =
     silent Deaf c r clean a q seen b refl named h (λ g. lost_plainly clean _ (damaged clean Deaf refl undamaged) g)
 checked_unseen clean (Mute place) c r a q seen b unseen undamaged named h =
     muted place c r clean a q seen b (port_answer a.target q) refl (damaged clean (Mute place) refl undamaged) named h
+
+-- OK that the target answered, and that wasn't seen: it was lost, and no power is found late
+pub record CheckedOkayLost (clean : Bool) (mark : Mark) (c : Choice) (q : Request) (r : Register) (a b : Port) : Type 0
+  where
+    pub okayed : CheckedOkayed mark c q r a b
+    pub prompt : IsCheckedPrompt c
+    pub may : clean ≡ false
+
+okay_driven_seen : (reply : Reply) (seen : ℕ) (P : Type 0) → seen ≡ port_ack_driven reply → IsPortNoAck seen
+    → reply ≡ Okay → P
+okay_driven_seen reply seen P e none okay =
+    absurd (let f : Silent ≡ Okay = sym (silent_driven reply seen e none).0 ∙ okay in cc)
+
+-- what such a request leaves
+pub checked_okay_lost : (clean : Bool) (mark : Mark) (c : Choice) (r : Register) (a : Port) (q : Request) (seen : ℕ)
+    (b : Port) → IsPortNoAck seen → (clean ≡ true → is_checked_clean mark ≡ true)
+    → port_register a.target.select q ≡ r → port_reply mark a.target q ≡ Okay → PortAsksNow mark c a q seen b
+    → CheckedOkayLost clean mark c q r a b
+checked_okay_lost clean Clean c r a q seen b none undamaged named okay h =
+    okay_driven_seen (port_reply Clean a.target q) seen _ h.sees none okay
+checked_okay_lost clean Wait c r a q seen b none undamaged named okay h =
+    okay_driven_seen (port_reply Wait a.target q) seen _ h.sees none okay
+checked_okay_lost clean (Flip place) c r a q seen b none undamaged named okay h =
+    okay_driven_seen (port_reply (Flip place) a.target q) seen _ h.sees none okay
+checked_okay_lost clean Deaf c r a q seen b none undamaged named okay h =
+    absurd (let e : Silent ≡ Okay = okay in cc)
+checked_okay_lost clean (Mute place) c r a q seen b none undamaged named okay h =
+    let k : CheckedOkayed (Mute place) c q r a b = checked_okayed (Mute place) c r a q seen b okay named h in
+    let p = k.late refl in record {
+      okayed = k;
+      prompt = record { debug = p.0; system = p.1 };
+      may = damaged clean (Mute place) refl undamaged;
+    }

@@ -8,7 +8,6 @@ use Rattle.swd_bits.specs.declared.tx.Tx.{Tx as Transaction}
 use Rattle.swd_bits.specs.declared.tx.TxEnd.{TxEnd}
 use Rattle.swd_bits.specs.declared.tx.TxEnd.TheVariants.{Wait, Fault, NoAck}
 use Rattle.swd_bits.specs.Transactions.{IsTxEnd}
-use Rattle.swd_trace.specs.declared.item.Item.TheVariants.{Tx}
 use Rattle.swd_port.specs.declared.register.Register.{Register}
 use Rattle.swd_port.specs.declared.mark.Mark.{Mark}
 use Rattle.swd_port.specs.declared.mark.Mark.TheVariants.{Clean, Wait as WaitMark, Deaf, Mute}
@@ -30,15 +29,15 @@ use Rattle.swd_checker.specs.Worlds.{World, world_succeeded, world_failed, world
 use Rattle.swd_checker.specs.Worlds.{world_after_fault}
 use Rattle.swd_checker.specs.Described.{IsWorldNow, checked_transfer_of}
 use Rattle.swd_checker.specs.Steps.{world_register, world_due}
-use Rattle.swd_checker.specs.Checked.{CheckedAsks, CheckedTransacts, is_checked_clean}
+use Rattle.swd_checker.specs.Checked.{CheckedAsks, is_checked_clean}
 use Rattle.swd_checker.specs.Adding.{IsCheckedPrompt}
 use Rattle.swd_checker.specs.Exact.{WorldWords, CheckedAnswers, IsWorldExact, IsWorldSound, IsWorldTarget, IsWorldPort}
-use Rattle.swd_checker.specs.Reaching.{CheckedLink, LinkSteps, LinkHas, WorldReaches}
+use Rattle.swd_checker.specs.Reaching.{CheckedLink, LinkLeads, WorldReaches, WorldTransacts}
 use Rattle.swd_checker.specs.Reached.{WorldsRefuse, WorldsDefer}
 use Rattle.swd_checker.proofs.DescribedLemmas.{world_fault_now, world_now_waits, world_success_pends_nothing}
 use Rattle.swd_checker.proofs.DueLemmas.{register_now, register_success, due_now, due_success, by_flags}
 use Rattle.swd_checker.proofs.SettleLemmas.{WorldPasses, world_goes_now, world_goes_settled, world_goes_failed}
-use Rattle.swd_checker.proofs.SettleLemmas.{link_reaches, checked_choice_plain, checked_plain_legal}
+use Rattle.swd_checker.proofs.SettleLemmas.{checked_choice_plain, checked_plain_legal}
 
 -- MARKS
 -- a mark under which the reply to a request, instead of this answer, is seen so
@@ -83,8 +82,9 @@ pub record TxEnded (clean : Bool) (tx : Transaction) (seen : ℕ) (asked : Port)
   pub after : Port
   pub target : after.target ≡ asked.target
   pub line : after.link.line ≡ asked.link.line
-  pub shows : (s : Port) → CheckedAsks clean s tx.request seen asked
-      → CheckedTransacts clean tx.result tx.request s after
+  pub shows : (okay : Bool) (s : Port) (asks : CheckedAsks clean s tx.request seen asked)
+      → (okay ≡ true → port_reply asks.mark asks.before.target tx.request ≡ Okay)
+      → WorldTransacts okay clean tx.result tx.request s after
 
 -- a turnaround after FAULT,
 pub tx_faulted : (clean : Bool) (tx : Transaction) (asked : Port) → tx.result ≡ Fault → TxEnded clean tx 4 asked
@@ -92,11 +92,15 @@ tx_faulted clean tx asked is = record {
   after = port_after_pass asked;
   target = refl;
   line = refl;
-  shows = λ s asks. subst (λ e. CheckedTransacts clean e tx.request s (port_after_pass asked)) (sym is) (record {
-    asked = asked;
-    asks = asks;
-    passes = (asked, port_after_pass asked, inl refl, record { after = refl }, inl refl);
-  });
+  shows = λ okay s asks answers.
+      subst (λ e. WorldTransacts okay clean e tx.request s (port_after_pass asked)) (sym is) (
+        record {
+          asked = asked;
+          asks = asks;
+          passes = (asked, port_after_pass asked, inl refl, record { after = refl }, inl refl);
+        },
+        answers,
+      );
 }
 
 -- after WAIT,
@@ -105,11 +109,15 @@ tx_waited clean tx asked is = record {
   after = port_after_pass asked;
   target = refl;
   line = refl;
-  shows = λ s asks. subst (λ e. CheckedTransacts clean e tx.request s (port_after_pass asked)) (sym is) (record {
-    asked = asked;
-    asks = asks;
-    passes = (asked, port_after_pass asked, inl refl, record { after = refl }, inl refl);
-  });
+  shows = λ okay s asks answers.
+      subst (λ e. WorldTransacts okay clean e tx.request s (port_after_pass asked)) (sym is) (
+        record {
+          asked = asked;
+          asks = asks;
+          passes = (asked, port_after_pass asked, inl refl, record { after = refl }, inl refl);
+        },
+        answers,
+      );
 }
 
 -- and nothing where no acknowledgement was seen
@@ -119,11 +127,19 @@ tx_lost clean tx seen asked is none = record {
   after = asked;
   target = refl;
   line = refl;
-  shows = λ s asks. subst (λ e. CheckedTransacts clean e tx.request s asked) (sym is)
-      (record { none = none; asks = asks });
+  shows = λ okay s asks answers. subst (λ e. WorldTransacts okay clean e tx.request s asked) (sym is)
+      (record { none = none; asks = asks }, answers);
 }
 
 -- REQUESTS
+-- a mark under which the target replies so
+pub replied_so : (clean : Bool) (a : Port) (q : Request) (r : Register) (answer reply : Reply) (seen : ℕ)
+    (k : ReplyMark clean r answer reply seen) → port_register a.target.select q ≡ r
+    → port_answer a.target q ≡ answer → port_reply k.mark a.target q ≡ reply
+replied_so clean a q r answer reply seen k names answers =
+    ap (λ z. port_reply_under k.mark z (port_answer a.target q)) names ∙ ap (port_reply_under k.mark r) answers
+    ∙ k.replies
+
 -- a request to which the target replies so under a mark
 pub asked_so : (clean : Bool) (s a : Port) (q : Request) (r : Register) (answer reply : Reply) (seen : ℕ) (c : Choice)
     → (k : ReplyMark clean r answer reply seen) → IsPortChoice c → IsCheckedPrompt c
@@ -131,9 +147,7 @@ pub asked_so : (clean : Bool) (s a : Port) (q : Request) (r : Register) (answer 
     → IsPendingSettled reply r a.target.pending → IsPortWordRead reply q.read (port_value_in c r a.target)
     → PortCompletes s a → CheckedAsks clean s q seen (port_after_reply k.mark reply r q c a)
 asked_so clean s a q r answer reply seen c k legal prompt names answers settled word completes =
-    let is : port_reply k.mark a.target q ≡ reply =
-    ap (λ z. port_reply_under k.mark z (port_answer a.target q)) names ∙ ap (port_reply_under k.mark r) answers
-    ∙ k.replies in
+    let is : port_reply k.mark a.target q ≡ reply = replied_so clean a q r answer reply seen k names answers in
     record {
       before = a;
       after = port_after_reply k.mark reply r q c a;
@@ -173,24 +187,29 @@ pub record WorldReplies (n : ℕ) (w next : World) (q : Request) (r : Register) 
       → port_line_awaits (port_line_after reply (port_phase_after q.read r flip value) line) ≡ next.awaits
 
 -- a transaction of which the acknowledgement was seen so, or not
-pub tx_passes : (clean : Bool) (n : ℕ) (tx : Transaction) (w next : World) (r : Register) (answer reply : Reply)
-    (seen : ℕ) → ReplyMark clean r answer reply seen → ((asked : Port) → TxEnded clean tx seen asked)
+pub tx_passes : (okay clean : Bool) (n : ℕ) (tx : Transaction) (w next : World) (r : Register)
+    (answer reply : Reply) (seen : ℕ) → (okay ≡ true → reply ≡ Okay) → ReplyMark clean r answer reply seen
+    → ((asked : Port) → TxEnded clean tx seen asked)
     → world_register w tx.request ≡ r → world_due w tx.request ≡ answer → (IsWorldSound w → IsWorldSound next)
     → (IsWorldSound w → (v : WorldWords) → IsWorldExact next v → WorldReplies n w next tx.request r reply v)
-    → WorldPasses clean n (Tx tx) w next
-tx_passes clean n tx w next r answer reply seen k ended names due sound each = record {
+    → WorldPasses okay clean n tx w next
+unfolding asked_so
+tx_passes okay clean n tx w next r answer reply seen answers_so k ended names due sound each = record {
   sound = sound;
   each = λ well v exact. let j = each well v exact in (
     j.before,
     j.exact,
     λ answers a h.
         let asked = port_after_reply k.mark reply r tx.request j.choice a in
-        let end : TxEnded clean tx seen asked = ended asked in (
+        let end : TxEnded clean tx seen asked = ended asked in
+        let named : port_register a.target.select tx.request ≡ r =
+        register_now w a.target tx.request h.target.now ∙ names in
+        let answered : port_answer a.target tx.request ≡ answer =
+        due_now w a.target tx.request h.target.now ∙ due in (
           end.after,
-          λ s completes. end.shows s (asked_so clean s a tx.request r answer reply seen j.choice k j.legal
-              j.prompt (register_now w a.target tx.request h.target.now ∙ names)
-              (due_now w a.target tx.request h.target.now ∙ due) (j.settled a.target h.target.now) (j.word answers a h)
-              completes),
+          λ s completes. end.shows okay s (asked_so clean s a tx.request r answer reply seen j.choice k j.legal
+              j.prompt named answered (j.settled a.target h.target.now) (j.word answers a h) completes)
+              (λ e. replied_so clean a tx.request r answer reply seen k named answered ∙ answers_so e),
           record {
             target = subst (IsWorldTarget next n v answers) (sym end.target) (j.leads answers a h);
             awaits = ap port_line_awaits end.line ∙ j.awaits (port_flip_of k.mark)
@@ -227,9 +246,10 @@ fault_target w n v answers r ap_is x h = record {
 fault_passes : (clean : Bool) (n : ℕ) (tx : Transaction) (w : World) (r : Register) (seen : ℕ)
     → ReplyMark clean r Faults Faults seen → ((asked : Port) → TxEnded clean tx seen asked)
     → world_register w tx.request ≡ r → world_due w tx.request ≡ Faults → w.pending ≡ None
-    → WorldPasses clean n (Tx tx) w (world_after_fault r tx.request.ap w)
+    → WorldPasses false clean n tx w (world_after_fault r tx.request.ap w)
 fault_passes clean n tx w r seen k ended names due none =
-    tx_passes clean n tx w (world_after_fault r tx.request.ap w) r Faults Faults seen k ended names due
+    tx_passes false clean n tx w (world_after_fault r tx.request.ap w) r Faults Faults seen (λ e. absurd (cc)) k ended
+    names due
     (λ sound. record { tar = sound.tar; buffer = sound.buffer; last_returned = sound.last_returned })
     (λ sound v exact. record {
       before = v;
@@ -255,18 +275,18 @@ by_failed true false f (inr e) = refl
 -- what is refused, or was a bus error, once it is seen, or not
 pub link_faults : (link : CheckedLink) (w : World) (clean : Bool) (tx : Transaction) (seen : ℕ)
     → ReplyMark clean (world_register w tx.request) Faults Faults seen
-    → ((asked : Port) → TxEnded clean tx seen asked) → LinkSteps link clean tx → LinkHas link w
+    → ((asked : Port) → TxEnded clean tx seen asked) → LinkLeads false link clean tx w
     → WorldsRefuse link w tx.request (world_register w tx.request)
-link_faults link w clean tx seen k ended steps has =
+link_faults link w clean tx seen k ended leads =
     let q : Request = tx.request in
     let r : Register = world_register w q in
     record {
-      refused = λ due. link_reaches link clean tx w _ steps has
-          (world_goes_settled clean link.identification (Tx tx) w _
+      refused = λ due. leads.goes _
+          (world_goes_settled false clean link.identification tx w _
           (fault_passes clean link.identification tx (world_succeeded w) r seen k ended (register_success w w.pending q)
           (due_success w w.pending q ∙ due) (world_success_pends_nothing w.pending w refl)));
-      failed = λ pends may. link_reaches link clean tx w _ steps has
-          (world_goes_failed clean link.identification (Tx tx) w _ pends
+      failed = λ pends may. leads.goes _
+          (world_goes_failed false clean link.identification tx w _ pends
           (fault_passes clean link.identification tx (world_failed w) r seen k ended refl
           (by_failed (port_is_answered w.reset r) (is_exempt_register r) _ may) refl));
     }
@@ -286,13 +306,14 @@ wait_target w n v answers r x h = record {
 }
 
 -- a request that is deferred
-pub link_waits : (link : CheckedLink) (w : World) (clean : Bool) (tx : Transaction) → LinkSteps link clean tx
-    → LinkHas link w → tx.result ≡ Wait → WorldsDefer link w tx.request (world_register w tx.request)
-link_waits link w clean tx steps has is due plain =
+pub link_waits : (link : CheckedLink) (w : World) (clean : Bool) (tx : Transaction)
+    → LinkLeads false link clean tx w → tx.result ≡ Wait
+    → WorldsDefer link w tx.request (world_register w tx.request)
+link_waits link w clean tx leads is due plain =
     let n : ℕ = link.identification in
     let r : Register = world_register w tx.request in
-    link_reaches link clean tx w _ steps has (world_goes_now clean n (Tx tx) w (world_after_wait r w)
-    (tx_passes clean n tx w (world_after_wait r w) r Okay Waits 2 (mark_waits clean r plain)
+    leads.goes (world_after_wait r w) (world_goes_now false clean n tx w (world_after_wait r w)
+    (tx_passes false clean n tx w (world_after_wait r w) r Okay Waits 2 (λ e. absurd (cc)) (mark_waits clean r plain)
     (λ asked. tx_waited clean tx asked is) refl due
     (λ sound. record { tar = sound.tar; buffer = sound.buffer; last_returned = sound.last_returned })
     (λ sound v exact. record {
@@ -311,12 +332,13 @@ link_waits link w clean tx steps has is due plain =
 -- a request that isn't answered
 pub link_silent : (link : CheckedLink) (w : World) (clean : Bool) (tx : Transaction) (answer : Reply) (seen : ℕ)
     → ReplyMark clean (world_register w tx.request) answer Silent seen
-    → ((asked : Port) → TxEnded clean tx seen asked) → LinkSteps link clean tx → LinkHas link w
+    → ((asked : Port) → TxEnded clean tx seen asked) → LinkLeads false link clean tx w
     → world_due w tx.request ≡ answer → WorldReaches link w
-link_silent link w clean tx answer seen k ended steps has due =
+link_silent link w clean tx answer seen k ended leads due =
     let n : ℕ = link.identification in
-    link_reaches link clean tx w w steps has (world_goes_now clean n (Tx tx) w w
-    (tx_passes clean n tx w w (world_register w tx.request) answer Silent seen k ended refl due (λ sound. sound)
+    leads.goes w (world_goes_now false clean n tx w w
+    (tx_passes false clean n tx w w (world_register w tx.request) answer Silent seen (λ e. absurd (cc)) k ended refl due
+    (λ sound. sound)
     (λ sound v exact. record {
       before = v;
       exact = exact;

@@ -15,7 +15,8 @@ use Rattle.swd_port.specs.Asking.{port_reply, port_target_after, port_after_wait
 use Rattle.swd_port.specs.Completion.{PortCompletes, port_completion}
 use Rattle.swd_port.specs.Moving.{PortTakes, PortGives, PortPasses, port_arrival, port_arrival_of, port_after_bits}
 use Rattle.swd_port.proofs.CompletionLaws.{port_completion_keeps_fact}
-use Rattle.swd_checker.specs.Checked.{CheckedAsks, CheckedHasMoved, WasCheckedRefused, CheckedTransacts, checked_phase}
+use Rattle.swd_checker.specs.Checked.{CheckedAsks, CheckedHasMoved, WasCheckedRefused, CheckedTransactsKept}
+use Rattle.swd_checker.specs.Checked.{checked_phase}
 use Rattle.swd_checker.proofs.CheckedLemmas.{checked_okay_seen, checked_wait_seen, checked_fault_seen}
 use Rattle.swd_checker.proofs.TransactLemmas.{phase_written, takes, gives, line_later}
 
@@ -115,9 +116,9 @@ moved_by P R clean q word ok s t false e h keeps first =
     (gives q.read h.asked t (checked_phase ok word) e h.moves)
     (answered_keeps P R clean q s h.asked 1 h.asks keeps first)
 
--- what a transaction keeps
+-- what a transaction keeps before which no write is given up
 pub transact_keeps : (P : Target → Type 0) (R : Register → Type 0) (clean : Bool) (q : Request) (end : TxEnd)
-    (s t : Port) → KeepsFact P R q → CheckedTransacts clean end q s t → P s.target → P t.target
+    (s t : Port) → KeepsFact P R q → CheckedTransactsKept clean end q s t → P s.target → P t.target
 transact_keeps P R clean q (Moved word ok) s t keeps h first =
     moved_by P R clean q word ok s t q.read refl h keeps first
 transact_keeps P R clean q Wait s t keeps h first = refused_keeps P R clean q s t 2 h keeps first

@@ -32,6 +32,7 @@ pub mod FieldsLemmas
 pub mod ReachLemmas
 pub mod SettleLemmas
 pub mod EffectLemmas
+pub mod GivenLemmas
 pub mod GoesLemmas
 pub mod MarkLemmas
 pub mod MovesLemmas

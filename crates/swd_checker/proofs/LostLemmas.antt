@@ -23,8 +23,8 @@ use Rattle.swd_checker.specs.Steps.{world_register, world_due, world_live, check
 use Rattle.swd_checker.specs.Adding.{IsCheckedPrompt}
 use Rattle.swd_checker.specs.Exact.{WorldWords, CheckedAnswers, IsWorldExact, IsWorldSound, IsWorldTarget, IsWorldPort}
 use Rattle.swd_checker.specs.Exact.{IsHeldExact, IsHeldSound}
-use Rattle.swd_checker.specs.Reaching.{CheckedLink, LinkSteps, LinkHas, WorldReaches}
-use Rattle.swd_checker.specs.Reached.{WorldsReturnAny, WorldsLoseSeen, world_accepted}
+use Rattle.swd_checker.specs.Reaching.{CheckedLink, LinkSteps, LinkLeads, WorldReaches}
+use Rattle.swd_checker.specs.Reached.{WorldsReturnAny, WorldsLoseOkay, WorldsLoseSeen, world_accepted}
 use Rattle.swd_checker.proofs.NearLemmas.{near_small}
 use Rattle.swd_checker.proofs.ReadLemmas.{world_now_awaits}
 use Rattle.swd_checker.proofs.AddingLemmas.{checked_posted_plain}
@@ -110,7 +110,7 @@ lost_reaches link clean tx b next r seen k may is none to =
     (at : IsWorldPort b n u answers a).
     okayed_awaits (base_okayed tx r b) n u answers r late (not q.read) a.target
     ((base_port link clean tx b r u answers a k at).okayed late) in
-    k.reaches next (tx_passes clean n tx b next r Okay Okay seen (mark_mute clean r Okay seen may none)
+    k.reaches next (tx_passes true clean n tx b next r Okay Okay seen (λ e. refl) (mark_mute clean r Okay seen may none)
     (λ asked. tx_lost clean tx seen asked is none) k.names k.due (λ sound. to.sound (base_sound tx r b sound))
     (λ sound v exact. let f = to.each (base_sound tx r b sound) v exact in record {
       before = f.before;
@@ -296,36 +296,45 @@ accepted_plain true ap awaits w e = absurd (cc)
 accepted_plain false ap awaits w e = refl
 
 okay_lost : (link : CheckedLink) (w : World) (clean : Bool) (tx : Transaction) (seen : ℕ) (exempt : Bool)
-    → LinkSteps link clean tx → LinkHas link w → clean ≡ false → tx.result ≡ NoAck seen → IsPortNoAck seen
-    → world_due w tx.request ≡ Okay → is_exempt_register (world_register w tx.request) ≡ exempt
+    → LinkSteps link clean tx → LinkLeads true link clean tx w → clean ≡ false → tx.result ≡ NoAck seen
+    → IsPortNoAck seen → world_due w tx.request ≡ Okay → is_exempt_register (world_register w tx.request) ≡ exempt
     → WorldsReturnAny link
     (world_accepted (not tx.request.read) (world_register w tx.request) tx.request.ap w) (world_register w tx.request)
-okay_lost link w clean tx seen true steps has may is none due e =
+okay_lost link w clean tx seen true steps leads may is none due e =
     let r : Register = world_register w tx.request in
     subst (λ z. WorldsReturnAny link z r)
     (sym (accepted_never (is_exempt_register r) tx.request.ap (not tx.request.read) w e))
-    (lost_any link clean tx w r seen (base_exempt link clean tx w r steps has refl e due) may is none steps.word.small)
-okay_lost link w clean tx seen false steps has may is none due e =
+    (lost_any link clean tx w r seen (base_exempt link clean tx w r leads refl e due) may is none steps.word.small)
+okay_lost link w clean tx seen false steps leads may is none due e =
     let r : Register = world_register w tx.request in
     subst (λ z. WorldsReturnAny link z r)
     (sym (accepted_plain (is_exempt_register r) tx.request.ap (not tx.request.read) w e))
-    (lost_any link clean tx (world_succeeded w) r seen (base_settled link clean tx w r steps has refl e due) may is none
+    (lost_any link clean tx (world_succeeded w) r seen (base_settled link clean tx w r leads refl e due) may is none
     steps.word.small)
+
+-- OK that wasn't seen
+pub link_lost_okay : (link : CheckedLink) (w : World) (clean : Bool) (tx : Transaction) (seen : ℕ)
+    → LinkSteps link clean tx → LinkLeads true link clean tx w → tx.result ≡ NoAck seen → clean ≡ false
+    → WorldsLoseOkay link w tx.request (world_register w tx.request)
+link_lost_okay link w clean tx seen steps leads is may due =
+    okay_lost link w clean tx seen (is_exempt_register (world_register w tx.request)) steps leads may is
+    (tx_no_ack tx.result seen steps.legal is) due refl
 
 -- a request whose acknowledgement wasn't seen
 pub link_lost : (link : CheckedLink) (w : World) (clean : Bool) (tx : Transaction) (seen : ℕ)
-    → LinkSteps link clean tx → LinkHas link w → tx.result ≡ NoAck seen
+    → LinkSteps link clean tx → ((okay : Bool) → LinkLeads okay link clean tx w) → tx.result ≡ NoAck seen
     → WorldsLoseSeen link w tx.request (world_register w tx.request) clean seen
-link_lost link w clean tx seen steps has is =
+link_lost link w clean tx seen steps leads is =
     let r : Register = world_register w tx.request in
     let none : IsPortNoAck seen = tx_no_ack tx.result seen steps.legal is in
     let ended = λ (asked : Port). tx_lost clean tx seen asked is none in
     record {
-      quiet = λ due quiet. link_silent link w clean tx Silent seen (mark_silent clean r seen quiet) ended steps has due;
+      quiet = λ due quiet. link_silent link w clean tx Silent seen (mark_silent clean r seen quiet) ended (leads false)
+          due;
       lost = λ may. record {
         nothing = link_silent link w clean tx (world_due w tx.request) seen
-            (mark_deaf clean r (world_due w tx.request) seen may none) ended steps has refl;
-        faults = link_faults link w clean tx seen (mark_mute clean r Faults seen may none) ended steps has;
-        okays = λ due. okay_lost link w clean tx seen (is_exempt_register r) steps has may is none due refl;
+            (mark_deaf clean r (world_due w tx.request) seen may none) ended (leads false) refl;
+        faults = link_faults link w clean tx seen (mark_mute clean r Faults seen may none) ended (leads false);
+        okays = λ due. link_lost_okay link w clean tx seen steps (leads true) is may due;
       };
     }

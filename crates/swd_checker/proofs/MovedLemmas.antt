@@ -10,7 +10,7 @@ use Rattle.swd_port.specs.Answers.{is_exempt_register}
 use Rattle.swd_checker.specs.Worlds.{World, world_succeeded, world_failed, world_confirmed}
 use Rattle.swd_checker.specs.Described.{checked_changed_at}
 use Rattle.swd_checker.specs.Steps.{world_register, world_due, world_cleared}
-use Rattle.swd_checker.specs.Reaching.{CheckedLink, LinkSteps, LinkHas, WorldReaches, IsLinkWord, checked_near_seen}
+use Rattle.swd_checker.specs.Reaching.{CheckedLink, LinkSteps, LinkLeads, WorldReaches, IsLinkWord, checked_near_seen}
 use Rattle.swd_checker.specs.Reached.{WorldsFindAll, WorldsReadSeen, WorldsArriveAt, WorldsTransfer, WorldsMove}
 use Rattle.swd_checker.specs.Reached.{world_accepted}
 use Rattle.swd_checker.proofs.MarkLemmas.{WriteMark, mark_written, mark_cured, mark_damaged, changed_word_small}
@@ -84,28 +84,29 @@ okayed_plain true ap w e = absurd (cc)
 
 moves_by : (exempt : Bool) (link : CheckedLink) (w : World) (clean : Bool) (tx : Transaction) (r : Register) (word : ℕ)
     (ok : Bool) → is_exempt_register r ≡ exempt → world_register w tx.request ≡ r → LinkSteps link clean tx
-    → LinkHas link w → tx.result ≡ Moved word ok → world_due w tx.request ≡ Okay
+    → LinkLeads true link clean tx w → tx.result ≡ Moved word ok → world_due w tx.request ≡ Okay
     → WorldsTransfer link (world_accepted false r tx.request.ap w) r tx.request.read clean word ok
-moves_by true link w clean tx r word ok e names steps has is due =
+moves_by true link w clean tx r word ok e names steps leads is due =
     subst (λ m. WorldsTransfer link m r tx.request.read clean word ok)
     (okayed_exempt (is_exempt_register r) tx.request.ap w e)
-    (transfer_reached link clean tx w r word ok (base_exempt link clean tx w r steps has names e due)
+    (transfer_reached link clean tx w r word ok (base_exempt link clean tx w r leads names e due)
     (λ exempt pends. (
       world_failed w,
-      base_failed link clean tx w r steps has names e due
+      base_failed link clean tx w r leads names e due
           (sym (ap is_some (world_okayed_pending (is_exempt_register r) tx.request.ap w)) ∙ pends),
       okayed_failed (is_exempt_register r) tx.request.ap w e,
     )) is (subst IsTxEnd is steps.legal) steps.word)
-moves_by false link w clean tx r word ok e names steps has is due =
+moves_by false link w clean tx r word ok e names steps leads is due =
     subst (λ m. WorldsTransfer link m r tx.request.read clean word ok)
     (okayed_plain (is_exempt_register r) tx.request.ap w e)
     (transfer_reached link clean tx (world_succeeded w) r word ok
-    (base_settled link clean tx w r steps has names e due)
+    (base_settled link clean tx w r leads names e due)
     (λ exempt pends. absurd (let f : true ≡ false = sym exempt ∙ e in cc)) is (subst IsTxEnd is steps.legal) steps.word)
 
 -- the worlds after OK and a data phase are reached
 pub moves_reached : (link : CheckedLink) (w : World) (clean : Bool) (tx : Transaction) (word : ℕ) (ok : Bool)
-    → LinkSteps link clean tx → LinkHas link w → tx.result ≡ Moved word ok
+    → LinkSteps link clean tx → LinkLeads true link clean tx w → tx.result ≡ Moved word ok
     → WorldsMove link w tx.request (world_register w tx.request) clean word ok
-moves_reached link w clean tx word ok steps has is = λ due. moves_by (is_exempt_register (world_register w tx.request))
-    link w clean tx (world_register w tx.request) word ok refl refl steps has is due
+moves_reached link w clean tx word ok steps leads is = λ due.
+    moves_by (is_exempt_register (world_register w tx.request)) link w clean tx (world_register w tx.request) word ok
+    refl refl steps leads is due

@@ -6,7 +6,6 @@ use Rattle.swd_bits.specs.declared.request.Reg4.{Reg4}
 use Rattle.swd_bits.specs.declared.request.Reg4.TheVariants.{R0, R4, R8, RC}
 use Rattle.swd_bits.specs.declared.tx.Tx.{Tx as Transaction}
 use Rattle.swd_bits.specs.declared.tx.TxEnd.TheVariants.{Moved}
-use Rattle.swd_trace.specs.declared.item.Item.TheVariants.{Tx}
 use Rattle.swd_port.specs.declared.register.Register.{Register}
 use Rattle.swd_port.specs.declared.register.Register.TheVariants.{AbortWrite, CtrlStatWrite}
 use Rattle.swd_port.specs.declared.register.Register.TheVariants.{SelectWrite}
@@ -16,23 +15,24 @@ use Rattle.swd_port.specs.declared.state.Reply.TheVariants.{Okay}
 use Rattle.swd_port.specs.Port.{Port, Target, port_register, port_register_where}
 use Rattle.swd_port.specs.Choices.{Choice, IsPortChoice}
 use Rattle.swd_port.specs.Answers.{is_exempt_register, port_is_answered, is_port_unpowered}
-use Rattle.swd_port.specs.Asking.{port_answer, port_value_in, port_after_okay, debug_up_after}
+use Rattle.swd_port.specs.Asking.{port_answer, port_reply, port_value_in, port_after_okay, debug_up_after}
 use Rattle.swd_port.specs.Asking.{port_after_reply, is_access_port_register}
 use Rattle.swd_port.specs.Moving.{port_after_bits, port_arrival_of, port_after_take, port_after_arrival}
 use Rattle.swd_observer.proofs.StepLemmas.{observed_ap_power}
 use Rattle.swd_checker.specs.Worlds.{World, PowerSeen, world_succeeded, world_failed, is_checked_power_there}
 use Rattle.swd_checker.specs.Described.{now}
 use Rattle.swd_checker.specs.Steps.{world_register, world_due}
-use Rattle.swd_checker.specs.Checked.{CheckedTransacts, CheckedHasMoved}
+use Rattle.swd_checker.specs.Checked.{CheckedHasMoved}
 use Rattle.swd_checker.specs.Exact.{WorldWords, CheckedAnswers, IsWorldExact, IsWorldSound, IsWorldTarget, IsWorldPort}
-use Rattle.swd_checker.specs.Reaching.{CheckedLink, LinkSteps, LinkHas, WorldReaches}
+use Rattle.swd_checker.specs.Reaching.{CheckedLink, LinkLeads, WorldReaches, WorldTransacts}
 use Rattle.swd_checker.proofs.DescribedLemmas.{world_success_pends_nothing, world_no_transfer}
 use Rattle.swd_checker.proofs.ReadLemmas.{world_now_awaits}
 use Rattle.swd_checker.proofs.DueLemmas.{register_now, due_now, by_flags, checked_register_access, world_okay_clear}
 use Rattle.swd_checker.proofs.DueLemmas.{register_success, due_success}
 use Rattle.swd_checker.proofs.SettleLemmas.{WorldPasses, world_goes_now, world_goes_settled, world_goes_failed}
-use Rattle.swd_checker.proofs.SettleLemmas.{link_reaches, world_succeeded_sound, world_failed_sound}
+use Rattle.swd_checker.proofs.SettleLemmas.{world_succeeded_sound, world_failed_sound}
 use Rattle.swd_checker.proofs.SettleLemmas.{checked_choice_plain}
+use Rattle.swd_checker.proofs.CheckedLemmas.{checked_reply_okay}
 use Rattle.swd_checker.proofs.EffectLemmas.{world_target_okays}
 use Rattle.swd_checker.proofs.MarkLemmas.{ReadMark, read_moved, WriteMark, write_moved}
 
@@ -101,7 +101,7 @@ world_okayed_pending false ap b = refl
 -- A BASE
 -- a world in which OK is due, before the request: what its states lead to is reached
 pub record LinkBase (link : CheckedLink) (clean : Bool) (tx : Transaction) (b : World) (r : Register) : Type 0 where
-  pub reaches : (next : World) → WorldPasses clean link.identification (Tx tx) b next → WorldReaches link next
+  pub reaches : (next : World) → WorldPasses true clean link.identification tx b next → WorldReaches link next
   pub names : world_register b tx.request ≡ r
   pub due : world_due b tx.request ≡ Okay
   pub settled : is_exempt_register r ≡ false → b.pending ≡ None
@@ -142,15 +142,14 @@ base_port link clean tx b r u answers a k is =
 
 -- a request that is never refused,
 pub base_exempt : (link : CheckedLink) (clean : Bool) (tx : Transaction) (w : World) (r : Register)
-    → LinkSteps link clean tx → LinkHas link w → world_register w tx.request ≡ r → is_exempt_register r ≡ true
+    → LinkLeads true link clean tx w → world_register w tx.request ≡ r → is_exempt_register r ≡ true
     → world_due w tx.request ≡ Okay → LinkBase link clean tx w r
-base_exempt link clean tx w r steps has names exempt due = record {
-  reaches = λ next h. link_reaches link clean tx w next steps has
-      (world_goes_now clean link.identification (Tx tx) w next h);
+base_exempt link clean tx w r leads names exempt due = record {
+  reaches = λ next h. leads.goes next (world_goes_now true clean link.identification tx w next h);
   names = names;
   due = due;
   settled = λ e. absurd (let f : true ≡ false = sym exempt ∙ e in cc);
-  sound = has.sound;
+  sound = leads.sound;
 }
 
 flags_exempt : (a b f g : Bool) → by_flags a b f ≡ Okay → b ≡ true → by_flags a b g ≡ Okay
@@ -160,31 +159,29 @@ flags_exempt true false f g e is = absurd (cc)
 
 -- also once the pending transfer was a bus error,
 pub base_failed : (link : CheckedLink) (clean : Bool) (tx : Transaction) (w : World) (r : Register)
-    → LinkSteps link clean tx → LinkHas link w → world_register w tx.request ≡ r → is_exempt_register r ≡ true
+    → LinkLeads true link clean tx w → world_register w tx.request ≡ r → is_exempt_register r ≡ true
     → world_due w tx.request ≡ Okay → is_some w.pending ≡ true → LinkBase link clean tx (world_failed w) r
-base_failed link clean tx w r steps has names exempt due pends = record {
-  reaches = λ next h. link_reaches link clean tx w next steps has
-      (world_goes_failed clean link.identification (Tx tx) w next pends h);
+base_failed link clean tx w r leads names exempt due pends = record {
+  reaches = λ next h. leads.goes next (world_goes_failed true clean link.identification tx w next pends h);
   names = names;
   due = flags_exempt (port_is_answered w.reset (world_register w tx.request))
       (is_exempt_register (world_register w tx.request)) _
       (true || w.write_error || is_port_unpowered tx.request.ap (is_checked_power_there w.debug)) due
       (ap is_exempt_register names ∙ exempt);
   settled = λ e. absurd (let f : true ≡ false = sym exempt ∙ e in cc);
-  sound = world_failed_sound w has.sound;
+  sound = world_failed_sound w leads.sound;
 }
 
 -- and another request, before which the pending transfer succeeded
 pub base_settled : (link : CheckedLink) (clean : Bool) (tx : Transaction) (w : World) (r : Register)
-    → LinkSteps link clean tx → LinkHas link w → world_register w tx.request ≡ r → is_exempt_register r ≡ false
+    → LinkLeads true link clean tx w → world_register w tx.request ≡ r → is_exempt_register r ≡ false
     → world_due w tx.request ≡ Okay → LinkBase link clean tx (world_succeeded w) r
-base_settled link clean tx w r steps has names plain due = record {
-  reaches = λ next h. link_reaches link clean tx w next steps has
-      (world_goes_settled clean link.identification (Tx tx) w next h);
+base_settled link clean tx w r leads names plain due = record {
+  reaches = λ next h. leads.goes next (world_goes_settled true clean link.identification tx w next h);
   names = register_success w w.pending tx.request ∙ names;
   due = due_success w w.pending tx.request ∙ due;
   settled = λ e. world_success_pends_nothing w.pending w refl;
-  sound = world_succeeded_sound w has.sound;
+  sound = world_succeeded_sound w leads.sound;
 }
 
 -- READS
@@ -207,9 +204,13 @@ pub record ReadsTo (n : ℕ) (clean ok : Bool) (word : ℕ) (r : Register) (m ne
   pub sound : IsWorldSound m → IsWorldSound next
   pub each : IsWorldSound m → (v : WorldWords) → IsWorldExact next v → ReadFrom n clean ok word r m next v
 
-moved_shows : (clean : Bool) (tx : Transaction) (word : ℕ) (ok : Bool) (s t : Port) → tx.result ≡ Moved word ok
-    → CheckedHasMoved clean tx.request word ok s t → CheckedTransacts clean tx.result tx.request s t
-moved_shows clean tx word ok s t is h = subst (λ z. CheckedTransacts clean z tx.request s t) (sym is) h
+moved_shows : (clean : Bool) (tx : Transaction) (word : ℕ) (ok : Bool) (s t : Port)
+    → tx.result ≡ Moved word ok → CheckedHasMoved clean tx.request word ok s t
+    → WorldTransacts true clean tx.result tx.request s t
+moved_shows clean tx word ok s t is h = subst (λ z. WorldTransacts true clean z tx.request s t) (sym is) (
+  h,
+  λ e. checked_reply_okay h.asks.mark (port_reply h.asks.mark h.asks.before.target tx.request) h.asks.asks.sees,
+)
 
 -- what a read leads to is reached
 pub read_reaches : (link : CheckedLink) (clean : Bool) (tx : Transaction) (b next : World) (r : Register) (word : ℕ)

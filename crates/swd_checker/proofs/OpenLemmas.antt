@@ -42,6 +42,7 @@ use Rattle.swd_checker.specs.Openings.{checked_reads_status, is_checked_moved}
 use Rattle.swd_checker.proofs.CheckedLemmas.{CheckedOkayed, checked_okay_seen, checked_reply_okay}
 use Rattle.swd_checker.proofs.DueLemmas.{checked_clear_by, checked_answered_by}
 use Rattle.swd_checker.proofs.OpeningLemmas.{plain_named}
+use Rattle.swd_checker.proofs.GivenLemmas.{checked_kept_at_rest}
 use Rattle.swd_checker.proofs.TransactLemmas.{bits_taken, phase_read, takes, moved_whole}
 
 -- THE LINE BEFORE A REQUEST
@@ -183,9 +184,10 @@ pub worlds_open_at_status : (v : Worlds) (q : Request) (word : ℕ) (ok : Bool) 
     → ((x : Target) → IsOpenedAtStatus word x → WorldsHold v false x) → WorldsOpen Resting (Moved word ok) q v
 worlds_open_at_status v q word ok right reads room opens clean u s t h rests =
     let fields = status_fields q.ap q.read q.addr reads in
-    let whole : CheckedHasMoved clean q word true s t = subst (λ b. CheckedHasMoved clean q word b s t) right h in (
+    let kept : CheckedHasMoved clean q word ok s t = checked_kept_at_rest clean (Moved word ok) q s t rests.pending h in
+    let whole : CheckedHasMoved clean q word true s t = subst (λ b. CheckedHasMoved clean q word b s t) right kept in (
       with_idle_line s,
-      moved_idle clean q word ok s t h,
+      inl (moved_idle clean q word ok s t kept),
       room,
       opens s.target (status_opened clean q word s t fields.0 fields.1 fields.2 whole rests),
     )
@@ -197,12 +199,14 @@ pub worlds_open_at_okay : (v : Worlds) (q : Request) (select : ℕ) (end : TxEnd
 worlds_open_at_okay v q select Wait moved may room opens clean u s t h selected = absurd (cc)
 worlds_open_at_okay v q select Fault moved may room opens clean u s t h selected = absurd (cc)
 worlds_open_at_okay v q select (NoAck seen) moved may room opens clean u s t h selected = absurd (cc)
-worlds_open_at_okay v q select (Moved word ok) moved may room opens clean u s t h selected = (
-  with_idle_line s,
-  moved_idle clean q word ok s t h,
-  room,
-  opens s.target (okay_opened clean q select word ok s t may h selected),
-)
+worlds_open_at_okay v q select (Moved word ok) moved may room opens clean u s t h selected =
+    let kept : CheckedHasMoved clean q word ok s t =
+    checked_kept_at_rest clean (Moved word ok) q s t selected.pending h in (
+      with_idle_line s,
+      inl (moved_idle clean q word ok s t kept),
+      room,
+      opens s.target (okay_opened clean q select word ok s t may kept selected),
+    )
 
 -- THE WORLDS
 pending_none : (x : Target) → x.pending ≡ None → option_map checked_transfer_of x.pending ≡ None

@@ -31,6 +31,7 @@ use Rattle.swd_checker.specs.Openings.{IsCheckedResting, IsCheckedSelected, Open
 use Rattle.swd_checker.specs.Openings.{checked_passes, checked_may_be_refused, checked_leaves_rest}
 use Rattle.swd_checker.specs.Openings.{checked_selects, is_opening_over}
 use Rattle.swd_checker.proofs.CheckedLemmas.{checked_okay_seen}
+use Rattle.swd_checker.proofs.GivenLemmas.{checked_kept_plain, checked_kept_at_rest}
 use Rattle.swd_checker.proofs.KeepingLemmas.{FactCompletes, KeepsFact, transact_keeps, waited_keeps, faulted_keeps}
 use Rattle.swd_checker.proofs.KeepingLemmas.{given_leads}
 use Rattle.swd_checker.proofs.TransactLemmas.{phase_written, gives, written_whole, hold_port_later}
@@ -160,12 +161,14 @@ rest_keeps q plain = record {
 pub opening_rests : (end : TxEnd) (q : Request) → checked_leaves_rest q.addr q.ap q.read ≡ true
     → OpeningLeads Resting end q Resting
 opening_rests end q plain clean v u s t h rests =
-    transact_keeps IsCheckedResting IsCheckedUnmoving clean q end s t (rest_keeps q plain) h rests
+    transact_keeps IsCheckedResting IsCheckedUnmoving clean q end s t (rest_keeps q plain)
+    (checked_kept_at_rest clean end q s t rests.pending h) rests
 
 -- at FAULT,
 pub opening_rests_at_fault : (q : Request) → OpeningLeads Resting Fault q Resting
 opening_rests_at_fault q clean v u s t h rests = faulted_keeps IsCheckedResting clean q s t rest_completes
-    (λ r x k. record { mem_ap = k.mem_ap; bank0 = k.bank0; pending = k.pending }) h rests
+    (λ r x k. record { mem_ap = k.mem_ap; bank0 = k.bank0; pending = k.pending })
+    (checked_kept_at_rest clean Fault q s t rests.pending h) rests
 
 -- A TARGET WHOSE SELECT WAS WRITTEN
 selected_completes : (word : ℕ) → FactCompletes (IsCheckedSelected word)
@@ -197,15 +200,17 @@ opening_passes word sent ok q passes clean v u s t h selected =
       writes = λ refuses r found x write named k. absurd (
           let e : true ≡ false = sym (passing_by q.ap true true q.read q.addr passes).0 ∙ write in cc
           );
-    }) h selected
+    }) (checked_kept_at_rest clean (Moved sent ok) q s t selected.pending h) selected
 
 -- WAIT
 pub opening_waits : (opening : Opening) (q : Request) → (opening ≡ Over → ⊥) → OpeningLeads opening Wait q opening
 opening_waits Anything q other clean v u s t h k = tt
 opening_waits Resting q other clean v u s t h k = waited_keeps IsCheckedResting clean q s t rest_completes
-    (λ r x n. record { mem_ap = n.mem_ap; bank0 = n.bank0; pending = n.pending }) h k
+    (λ r x n. record { mem_ap = n.mem_ap; bank0 = n.bank0; pending = n.pending })
+    (checked_kept_at_rest clean Wait q s t k.pending h) k
 opening_waits (Selected word) q other clean v u s t h k = waited_keeps (IsCheckedSelected word) clean q s t
-    (selected_completes word) (λ r x n. record { pending = n.pending; arrived = n.arrived }) h k
+    (selected_completes word) (λ r x n. record { pending = n.pending; arrived = n.arrived })
+    (checked_kept_at_rest clean Wait q s t k.pending h) k
 opening_waits Over q other clean v u s t h k = absurd (other refl)
 
 -- SELECT is written
@@ -248,9 +253,11 @@ select_by ap m read RC b e = absurd (cc)
 pub opening_selects : (opening : Opening) (q : Request) (word : ℕ) (ok : Bool) → ok ≡ true
     → checked_selects q.addr q.ap q.read ≡ true → OpeningLeads opening (Moved word ok) q (Selected word)
 opening_selects opening q word ok right selects clean v u s t h k =
-    select_moved clean q word s t (select_by q.ap true q.read q.addr true selects).0
-    (λ mem_ap bank0. (select_by q.ap mem_ap q.read q.addr bank0 selects).1)
-    (subst (λ b. CheckedHasMoved clean q word b s t) right h)
+    let named = λ (mem_ap bank0 : Bool). (select_by q.ap mem_ap q.read q.addr bank0 selects).1 in
+    let kept : CheckedHasMoved clean q word ok s t = checked_kept_plain clean (Moved word ok) q s t
+    (ap is_exempt_register (named (port_selects_mem_ap s.target.select) (s.target.select.dpbanksel == 0))) h in
+    select_moved clean q word s t (select_by q.ap true q.read q.addr true selects).0 named
+    (subst (λ b. CheckedHasMoved clean q word b s t) right kept)
 
 -- nothing is known afterwards
 pub opening_forgets : (opening : Opening) (end : TxEnd) (q : Request) → OpeningLeads opening end q Anything

@@ -1,12 +1,10 @@
--- The states of a port before its pending transfer took effect, or was a bus error; and a transaction in a list.
+-- The states of a port before its pending transfer took effect, or was a bus error; and a transaction after that.
 use Rattle.std.proofs.Common.{◌≡◌, ◌<◌, ◌≤◌, ◌+◌, ◌*◌, ◌%◌, ℕ, Bool, true, false, refl, sym, ap, subst, ◌∙◌, inl}
 use Rattle.std.proofs.Common.{inr}
 use Rattle.std.proofs.Common.{arith, List, [], ◌∷◌}
 use Rattle.std.specs.Prelude.{Option, Some, None, is_some, if◌then◌else◌, nat_lt, unwrap_or, not}
 use Rattle.std.specs.Option.{option_map, option_and_then}
 use Rattle.swd_bits.specs.declared.tx.Tx.{Tx as Transaction}
-use Rattle.swd_trace.specs.declared.item.Item.{Item}
-use Rattle.swd_trace.specs.declared.item.Item.TheVariants.{Tx}
 use Rattle.swd_port.specs.declared.access.Access.{Access}
 use Rattle.swd_port.specs.declared.state.Drw.{Drw}
 use Rattle.swd_port.specs.declared.state.Drw.TheVariants.{Reads, Writes}
@@ -24,15 +22,9 @@ use Rattle.swd_checker.specs.Worlds.{checked_buffer_moved, world_success_of, wor
 use Rattle.swd_checker.specs.Described.{CheckedHeld, IsWorldNow, checked_transfer_of, checked_near_at}
 use Rattle.swd_checker.specs.Exact.{WorldWords, CheckedAnswers, IsTarExact, IsHeldExact, IsTarSound, IsHeldSound}
 use Rattle.swd_checker.specs.Exact.{IsWorldExact, IsWorldSound, IsWorldTarget, IsWorldPort}
-use Rattle.swd_checker.specs.Standing.{CheckedShowsPlainly}
-use Rattle.swd_checker.specs.Reaching.{WorldGoes, CheckedLink, LinkSteps, LinkHas, WorldReaches}
+use Rattle.swd_checker.specs.Reaching.{WorldSteps, WorldGoes, WorldTransacts}
 use Rattle.swd_checker.proofs.DescribedLemmas.{world_now_succeeds, world_now_fails}
 use Rattle.swd_checker.proofs.ReadLemmas.{checked_csw_read}
-
--- a step that leads from one state to the other, whatever the bus is to answer after it
-abbrev pub WorldSteps : (Port → Port → Type 0) → ℕ → World → WorldWords → World → WorldWords → Type 0
-WorldSteps step n w u next v = (after : CheckedAnswers) → (before : CheckedAnswers)
-    × ((s : Port) → IsWorldPort w n u before s → (t : Port) × step s t × IsWorldPort next n v after t)
 
 -- what a world stands for exactly of the read buffer, or of the last returned value, it describes
 pub held_exact_checked : (held : Held) (value : Option ℕ) → IsHeldExact held value → CheckedHeld held value
@@ -306,29 +298,31 @@ pub world_fails : (w : World) (n : ℕ) (v : WorldWords) → is_some w.pending �
     → (u : WorldWords) × IsWorldExact w u × WorldSteps PortCompletes n w u (world_failed w) v
 world_fails w n v pends sound exact = fails w.pending w n v refl pends sound exact
 
--- WHAT AN ITEM SHOWS AFTER COMPLETION
--- Each state that the second stands for is one to which the item leads, from a state of the first that a completion
--- leads to. The bus answers the same before and after it.
-pub record WorldPasses (clean : Bool) (n : ℕ) (item : Item) (w next : World) : Type 0 where
+-- A TRANSACTION AFTER COMPLETION
+-- Each state that the second stands for is one to which the transaction leads, from a state of the first that a
+-- completion leads to. The bus answers the same before and after it. No write is given up before it, and the target
+-- answers OK where `okay` is true.
+pub record WorldPasses (okay clean : Bool) (n : ℕ) (tx : Transaction) (w next : World) : Type 0 where
   pub sound : IsWorldSound w → IsWorldSound next
   pub each : IsWorldSound w → (v : WorldWords) → IsWorldExact next v
       → (u : WorldWords) × IsWorldExact w u × ((answers : CheckedAnswers) (a : Port) → IsWorldPort w n u answers a
-      → (t : Port) × ((s : Port) → PortCompletes s a → CheckedShowsPlainly clean 0 item s t)
+      → (t : Port) × ((s : Port) → PortCompletes s a → WorldTransacts okay clean tx.result tx.request s t)
       × IsWorldPort next n v answers t)
 
--- nothing took effect before the item,
-pub world_goes_now : (clean : Bool) (n : ℕ) (item : Item) (w next : World) → WorldPasses clean n item w next
-    → WorldGoes clean n item w next
-world_goes_now clean n item w next h = record {
+-- nothing took effect before the transaction,
+pub world_goes_now : (okay clean : Bool) (n : ℕ) (tx : Transaction) (w next : World)
+    → WorldPasses okay clean n tx w next → WorldGoes (WorldTransacts okay clean tx.result tx.request) n w next
+world_goes_now okay clean n tx w next h = record {
   sound = h.sound;
   each = λ sound v exact. let k = h.each sound v exact in
       (k.0, k.1, λ after. (after, λ s is. let t = k.2 after s is in (t.0, t.1 s (inl refl), t.2)));
 }
 
 -- the pending transfer succeeded,
-pub world_goes_settled : (clean : Bool) (n : ℕ) (item : Item) (w next : World)
-    → WorldPasses clean n item (world_succeeded w) next → WorldGoes clean n item w next
-world_goes_settled clean n item w next h = record {
+pub world_goes_settled : (okay clean : Bool) (n : ℕ) (tx : Transaction) (w next : World)
+    → WorldPasses okay clean n tx (world_succeeded w) next
+    → WorldGoes (WorldTransacts okay clean tx.result tx.request) n w next
+world_goes_settled okay clean n tx w next h = record {
   sound = λ sound. h.sound (world_succeeded_sound w sound);
   each = λ sound v exact. let k = h.each (world_succeeded_sound w sound) v exact in
       let j = world_settles w n k.0 sound k.1 in (
@@ -343,9 +337,10 @@ world_goes_settled clean n item w next h = record {
 }
 
 -- or was a bus error
-pub world_goes_failed : (clean : Bool) (n : ℕ) (item : Item) (w next : World) → is_some w.pending ≡ true
-    → WorldPasses clean n item (world_failed w) next → WorldGoes clean n item w next
-world_goes_failed clean n item w next pends h = record {
+pub world_goes_failed : (okay clean : Bool) (n : ℕ) (tx : Transaction) (w next : World) → is_some w.pending ≡ true
+    → WorldPasses okay clean n tx (world_failed w) next
+    → WorldGoes (WorldTransacts okay clean tx.result tx.request) n w next
+world_goes_failed okay clean n tx w next pends h = record {
   sound = λ sound. h.sound (world_failed_sound w sound);
   each = λ sound v exact. let k = h.each (world_failed_sound w sound) v exact in
       let j = world_fails w n k.0 pends sound k.1 in (
@@ -358,18 +353,3 @@ world_goes_failed clean n item w next pends h = record {
         ),
       );
 }
-
--- A TRANSACTION IN A LIST
--- what a transaction leads to from a world of the list is reached
-pub link_reaches : (link : CheckedLink) (clean : Bool) (tx : Transaction) (w next : World) → LinkSteps link clean tx
-    → LinkHas link w → WorldGoes clean link.identification (Tx tx) w next → WorldReaches link next
-link_reaches link clean tx w next steps has goes =
-    let again : WorldGoes link.clean link.identification link.item has.kept.world next =
-    subst (λ v. WorldGoes link.clean link.identification link.item v next) (sym has.is)
-    (subst (λ i. WorldGoes link.clean link.identification i w next) (sym steps.item)
-    (subst (λ b. WorldGoes b link.identification (Tx tx) w next) (sym steps.wire) goes)) in
-    let sound : IsWorldSound has.kept.world = subst IsWorldSound (sym has.is) has.sound in
-    record {
-      sound = again.sound sound;
-      each = λ v exact. (has.within.0, has.kept, has.within.1, has.within.2, again.each sound v exact);
-    }

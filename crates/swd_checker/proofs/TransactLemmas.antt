@@ -16,7 +16,8 @@ use Rattle.swd_port.specs.declared.mark.Mark.TheVariants.{Clean, Wait, Flip, Dea
 use Rattle.swd_port.specs.Choices.{port_flipped}
 use Rattle.swd_port.specs.declared.state.AfterAck.{AfterAck}
 use Rattle.swd_port.specs.declared.state.AfterAck.TheVariants.{Awaits, Drives}
-use Rattle.swd_port.specs.Port.{Port, Target, port_selects_mem_ap, port_register_where}
+use Rattle.swd_port.specs.Port.{Port, Target, port_register, port_selects_mem_ap, port_register_where}
+use Rattle.swd_bits.specs.declared.tx.TxEnd.TheVariants.{NoAck}
 use Rattle.swd_port.specs.Choices.{Choice, port_flip_of, IsPortMark, PortMayBeLate}
 use Rattle.swd_port.specs.Answers.{is_exempt_register}
 use Rattle.swd_port.specs.Asking.{port_answer, port_after_okay, port_after_wait, port_after_fault, port_value_in}
@@ -40,14 +41,16 @@ use Rattle.swd_checker.specs.Asking.{IsAskedBy, IsAskedAlike, IsAskedAccepted, I
 use Rattle.swd_checker.specs.Adding.{IsCheckedPrompt, WorldsReturn, WorldsRead, WorldsArrive, WorldsDamage}
 use Rattle.swd_checker.specs.Adding.{WorldsLose}
 use Rattle.swd_checker.specs.Checked.{CheckedAsks, CheckedHasMoved, WasCheckedRefused, WasCheckedLost, checked_phase}
-use Rattle.swd_checker.specs.Checked.{is_checked_clean}
+use Rattle.swd_checker.specs.Checked.{is_checked_clean, IsCheckedOkay}
+use Rattle.swd_checker.specs.Reaching.{CheckedLink}
+use Rattle.swd_checker.specs.Reached.{WorldsLoseOkay}
 use Rattle.swd_checker.proofs.DescribedLemmas.{world_completes, world_at_completion}
 use Rattle.swd_checker.proofs.AddingLemmas.{world_after_plain}
 use Rattle.swd_checker.proofs.PhaseLemmas.{seen_whole, seen_unchanged, seen_changed, seen_undamaged, sent_changed}
 use Rattle.swd_checker.proofs.CheckedLemmas.{CheckedOkayed, CheckedFaulted, CheckedWaited, CheckedUnseen, ignored}
 use Rattle.swd_checker.proofs.CheckedLemmas.{accepted, refused, checked_okay_seen, checked_wait_seen}
 use Rattle.swd_checker.proofs.CheckedLemmas.{checked_fault_seen}
-use Rattle.swd_checker.proofs.CheckedLemmas.{checked_unseen}
+use Rattle.swd_checker.proofs.CheckedLemmas.{checked_unseen, CheckedOkayLost, checked_okay_lost}
 use Rattle.swd_checker.proofs.AddedLemmas.{WorldIsAdded}
 use Rattle.swd_checker.proofs.DueLemmas.{world_names, world_due_okay, world_due_silent, world_never_faults}
 
@@ -521,6 +524,17 @@ lost_nothing : (asked : Asked) (v : Worlds) (seen : ℕ) (clean : Bool) (a : Por
 lost_nothing asked v seen true a e loses plain quiet = quiet (plain e)
 lost_nothing asked v seen false a e loses plain quiet = (loses e).nothing
 
+-- OK that wasn't seen
+okay_lost_to : (asked : Asked) (v : Worlds) (mark : Mark) (c : Choice) (a b : Port) → WorldDescribesPort asked.world a
+    → CheckedOkayed mark c asked.request asked.register a b
+    → ((x : Target) → WorldDescribes asked.world x → (is_exempt_register asked.register ≡ false → x.pending ≡ None)
+    → port_answer x asked.request ≡ Okay
+    → WorldsHold v (not asked.request.read) (port_after_okay c asked.register x)) → WorldsHoldPort v b
+okay_lost_to asked v mark c a b d k okays =
+    subst (λ l. WorldsHold v l b.target)
+    (sym (ap port_line_awaits k.line ∙ awaits_after asked.request.read asked.register (port_flip_of mark) _))
+    (subst (WorldsHold v (not asked.request.read)) (sym k.target) (okays a.target d.target k.settled k.answer))
+
 lost_to : (asked : Asked) (v : Worlds) (seen : ℕ) (a b : Port) → WorldDescribesPort asked.world a
     → CheckedUnseen asked.request asked.register seen asked.clean a b → (asked.clean ≡ false → LosesTo asked v)
     → ((seen ≡ 7) × (port_answer a.target asked.request ≡ Silent)
@@ -528,10 +542,7 @@ lost_to : (asked : Asked) (v : Worlds) (seen : ℕ) (a b : Port) → WorldDescri
 lost_to asked v seen a b d (ignored target line plain) loses quiet = hold_same v asked.world a b d target line
     (lost_nothing asked v seen asked.clean a refl loses plain quiet)
 lost_to asked v seen a b d (accepted mark c k prompt may) loses quiet =
-    subst (λ l. WorldsHold v l b.target)
-    (sym (ap port_line_awaits k.line ∙ awaits_after asked.request.read asked.register (port_flip_of mark) _))
-    (subst (WorldsHold v (not asked.request.read)) (sym k.target)
-    ((loses may).okays c a.target d.target k.settled k.answer prompt))
+    okay_lost_to asked v mark c a b d k (λ x h settled e. (loses may).okays c x h settled e prompt)
 lost_to asked v seen a b d (refused k may) loses quiet =
     hold_faulted v asked.world asked.request asked.register a b d k (loses may).faults
 
@@ -568,7 +579,7 @@ loses_never asked v seen clean never s t is lost d = loses_by asked v seen s t i
     (λ a h quiet. absurd (never (world_due_silent asked.world a.target asked.request h quiet.1) quiet.0))
 
 -- the same request, of which one more is damaged or lost
-asked_again : (asked lost : Asked) → IsAskedAlike lost asked → lost.world ≡ asked.world → IsAskedBy asked
+pub asked_again : (asked lost : Asked) → IsAskedAlike lost asked → lost.world ≡ asked.world → IsAskedBy asked
     → IsAskedBy lost
 asked_again asked lost same world is = record {
   register = same.register ∙ is.register ∙ ap (λ q. world_register asked.world q) (sym same.request)
@@ -611,6 +622,48 @@ abbrev pub AcceptsTo : Asked → Option Asked → Type 0
 AcceptsTo asked result = (c : Choice) (x : Target) → IsAskedBy asked → WorldDescribes asked.world x
     → (is_exempt_register asked.register ≡ false → x.pending ≡ None) → port_answer x asked.request ≡ Okay
     → IsAskedAccepted result asked.register c x
+
+-- OK that was lost is one of these
+pub loses_okay : (asked lost : Asked) (v : Worlds) → IsAskedAlike lost asked → lost.world ≡ asked.world
+    → (asked.clean ≡ false → AcceptsUnseen lost v) → (seen : ℕ) (s t : Port) → IsAskedBy asked
+    → (h : WasCheckedLost asked.clean asked.request seen s t)
+    → IsCheckedOkay asked.clean (NoAck seen) asked.request s t h → WorldDescribesPort asked.world s → WorldsHoldPort v t
+loses_okay asked lost v same world accepts seen s t is h okay d =
+    let before : Port = h.asks.before in
+    let later : WorldDescribesPort asked.world before = world_at_completion asked.world s before h.asks.completes d in
+    let k : CheckedOkayLost asked.clean h.asks.mark h.asks.choice asked.request asked.register before h.asks.after =
+    checked_okay_lost asked.clean h.asks.mark h.asks.choice asked.register before asked.request seen h.asks.after h.none
+    h.asks.undamaged (world_names asked.world before.target asked.request later.target ∙ sym is.register) okay
+    h.asks.asks in
+    let c : Choice = h.asks.choice in
+    hold_port_later v h.asks.after t h.asks.then (okay_lost_to asked v h.asks.mark c before h.asks.after later k.okayed
+    (λ x described settled e.
+    let found : WorldsHold v (not lost.request.read) (port_after_okay c lost.register x) =
+    accepts k.may c x (asked_again asked lost same world is)
+    (subst (λ w. WorldDescribes w x) (sym world) described)
+    (λ f. settled (sym (ap is_exempt_register same.register) ∙ f)) (ap (port_answer x) same.request ∙ e) k.prompt in
+    subst (λ r. WorldsHold v (not asked.request.read) (port_after_okay c r x)) same.register
+    (subst (λ (q : Request). WorldsHold v (not q.read) (port_after_okay c lost.register x)) same.request found)))
+
+-- each world that it leads to is reached
+pub loses_okay_reached : (link : CheckedLink) (asked lost : Asked) → IsAskedAlike lost asked
+    → lost.world ≡ asked.world → WorldsLoseOkay link asked.world asked.request asked.register
+    → WorldsLoseOkay link lost.world lost.request lost.register
+loses_okay_reached link asked lost same world h =
+    subst (λ w. WorldsLoseOkay link w lost.request lost.register) (sym world)
+    (subst (λ q. WorldsLoseOkay link asked.world q lost.register) (sym same.request)
+    (subst (λ r. WorldsLoseOkay link asked.world asked.request r) (sym same.register) h))
+
+-- where nothing is lost, there is none
+pub loses_okay_never : (asked : Asked) (v : Worlds) → not asked.clean ≡ false → (seen : ℕ) (s t : Port)
+    → IsAskedBy asked → (h : WasCheckedLost asked.clean asked.request seen s t)
+    → IsCheckedOkay asked.clean (NoAck seen) asked.request s t h → WorldDescribesPort asked.world s → WorldsHoldPort v t
+loses_okay_never asked v clean seen s t is h okay d =
+    let k : CheckedOkayLost asked.clean h.asks.mark h.asks.choice asked.request
+    (port_register h.asks.before.target.select asked.request) h.asks.before h.asks.after =
+    checked_okay_lost asked.clean h.asks.mark h.asks.choice _ h.asks.before asked.request seen h.asks.after h.none
+    h.asks.undamaged refl okay h.asks.asks in
+    absurd (let e : true ≡ false = ap not (sym k.may) ∙ clean in cc)
 
 -- there is a world after it
 pub accepts_unseen : (lost now : Asked) (v : Worlds) (result : Option Asked) → result ≡ Some now

@@ -1,6 +1,6 @@
 -- What an item of a trace shows of the port model: that it is a step of it, by a request, a data phase, or ones and
 -- zeros.
-use Rattle.std.specs.Prelude.{ℕ, ◌≡◌, ◌<◌, ◌^◌, Bool, true, false, Some}
+use Rattle.std.specs.Prelude.{ℕ, ◌≡◌, ◌⊎◌, ◌<◌, ◌^◌, Bool, true, false, Some}
 use Rattle.swd_bits.specs.declared.request.Request.{Request}
 use Rattle.swd_bits.specs.declared.tx.TxEnd.{TxEnd}
 use Rattle.swd_bits.specs.declared.tx.TxEnd.TheVariants.{Moved, Wait, Fault, NoAck}
@@ -11,7 +11,9 @@ use Rattle.swd_port.specs.declared.mark.Mark.{Mark}
 use Rattle.swd_port.specs.declared.mark.Mark.TheVariants.{Clean, Wait as WaitMark}
 use Rattle.swd_port.specs.Choices.{Choice}
 use Rattle.swd_port.specs.Answers.{IsPortNoAck}
-use Rattle.swd_port.specs.Asking.{PortAsksNow}
+use Rattle.swd_port.specs.declared.state.Reply.TheVariants.{Okay}
+use Rattle.swd_port.specs.Asking.{PortAsksNow, port_reply}
+use Rattle.swd_port.specs.GivingUp.{PortGaveUp}
 use Rattle.swd_port.specs.Completion.{PortCompletes}
 use Rattle.swd_port.specs.Moving.{PortPasses}
 use Rattle.swd_observer.specs.Transacts.{ObservedMoves}
@@ -22,7 +24,8 @@ is_checked_clean Clean = true
 is_checked_clean WaitMark = true
 is_checked_clean mark = false
 
--- A request of the port model, with its mark. Where `clean` is true, nothing is damaged or lost.
+-- A request of the port model, with its mark, before which no write is given up. Where `clean` is true, nothing is
+-- damaged or lost.
 pub record CheckedAsks (clean : Bool) (s : Port) (q : Request) (seen : ℕ) (t : Port) : Type 0 where
   pub before : Port
   pub after : Port
@@ -56,9 +59,30 @@ pub record WasCheckedLost (clean : Bool) (q : Request) (seen : ℕ) (s t : Port)
   pub none : IsPortNoAck seen
   pub asks : CheckedAsks clean s q seen t
 
+-- a whole transaction, before which no write is given up
+abbrev pub CheckedTransactsKept : Bool → TxEnd → Request → Port → Port → Type 0
+CheckedTransactsKept clean (Moved word ok) q s t = CheckedHasMoved clean q word ok s t
+CheckedTransactsKept clean Wait q s t = WasCheckedRefused clean q 2 s t
+CheckedTransactsKept clean Fault q s t = WasCheckedRefused clean q 4 s t
+CheckedTransactsKept clean (NoAck seen) q s t = WasCheckedLost clean q seen s t
+
+-- the target saw the request, and answered OK to it
+abbrev pub IsCheckedOkay : (clean : Bool) (end : TxEnd) (q : Request) (s t : Port)
+    → CheckedTransactsKept clean end q s t → Type 0
+IsCheckedOkay clean (Moved word ok) q s t h = port_reply h.asks.mark h.asks.before.target q ≡ Okay
+IsCheckedOkay clean Wait q s t h = port_reply h.asks.mark h.asks.before.target q ≡ Okay
+IsCheckedOkay clean Fault q s t h = port_reply h.asks.mark h.asks.before.target q ≡ Okay
+IsCheckedOkay clean (NoAck seen) q s t h = port_reply h.asks.mark h.asks.before.target q ≡ Okay
+
+-- A whole transaction, before which the target gives the pending write up. That is no damage of the wire: it may be
+-- where `clean` is true.
+pub record CheckedTransactsGivenUp (clean : Bool) (end : TxEnd) (q : Request) (s t : Port) : Type 0 where
+  pub given : Port
+  pub gives : PortGaveUp q s given
+  pub transacts : CheckedTransactsKept clean end q given t
+  pub okay : IsCheckedOkay clean end q given t transacts
+
 -- a whole transaction
 abbrev pub CheckedTransacts : Bool → TxEnd → Request → Port → Port → Type 0
-CheckedTransacts clean (Moved word ok) q s t = CheckedHasMoved clean q word ok s t
-CheckedTransacts clean Wait q s t = WasCheckedRefused clean q 2 s t
-CheckedTransacts clean Fault q s t = WasCheckedRefused clean q 4 s t
-CheckedTransacts clean (NoAck seen) q s t = WasCheckedLost clean q seen s t
+CheckedTransacts clean end q s t =
+    CheckedTransactsKept clean end q s t ⊎ CheckedTransactsGivenUp clean end q s t

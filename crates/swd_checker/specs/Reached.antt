@@ -131,11 +131,15 @@ abbrev pub WorldsMove : CheckedLink → World → Request → Register → Bool 
 WorldsMove link w q r clean word ok = world_due w q ≡ Okay
     → WorldsTransfer link (world_accepted false r q.ap w) r q.read clean word ok
 
+-- OK that wasn't seen
+abbrev pub WorldsLoseOkay : CheckedLink → World → Request → Register → Type 0
+WorldsLoseOkay link w q r = world_due w q ≡ Okay → WorldsReturnAny link (world_accepted (not q.read) r q.ap w) r
+
 -- a request that the target didn't see, or whose answer was damaged
 pub record WorldsLoseAny (link : CheckedLink) (w : World) (q : Request) (r : Register) : Type 0 where
   pub nothing : WorldReaches link w
   pub faults : WorldsRefuse link w q r
-  pub okays : world_due w q ≡ Okay → WorldsReturnAny link (world_accepted (not q.read) r q.ap w) r
+  pub okays : WorldsLoseOkay link w q r
 
 pub record WorldsLoseSeen (link : CheckedLink) (w : World) (q : Request) (r : Register) (clean : Bool) (seen : ℕ)
     : Type 0 where

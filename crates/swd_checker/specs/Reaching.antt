@@ -3,6 +3,8 @@ use Rattle.std.specs.Prelude.{ℕ, ◌≡◌, ◌<◌, ◌-◌, ◌^◌, Bool, t
 use Rattle.std.specs.Prelude.{Any}
 use Rattle.std.specs.Prelude.{unwrap_or}
 use Rattle.swd_bits.specs.declared.tx.Tx.{Tx as Transaction}
+use Rattle.swd_bits.specs.declared.request.Request.{Request}
+use Rattle.swd_bits.specs.declared.tx.TxEnd.{TxEnd}
 use Rattle.swd_bits.specs.declared.tx.TxEnd.TheVariants.{Moved}
 use Rattle.swd_bits.specs.Transactions.{IsTx}
 use Rattle.swd_trace.specs.declared.item.Item.{Item}
@@ -18,20 +20,29 @@ use Rattle.swd_checker.specs.Described.{IsCheckedNear}
 use Rattle.swd_checker.specs.Words.{Words, IsCheckedWord}
 use Rattle.swd_checker.specs.Exact.{WorldWords, CheckedAnswers, IsWorldExact, IsWorldSound, IsWorldPort, IsHeldExact}
 use Rattle.swd_checker.specs.Exact.{IsHeldSound, IsNearSound}
+use Rattle.swd_checker.specs.Checked.{CheckedTransactsKept, IsCheckedOkay}
 use Rattle.swd_checker.specs.Standing.{CheckedShowsPlainly, checked_reads_dpidr, IsIdentified}
 
--- The item leads from one state to the other, whatever the bus is to answer after it: some bus answers so in between
--- that it does.
-abbrev pub WorldLeads : Bool → ℕ → Item → World → WorldWords → World → WorldWords → Type 0
-WorldLeads clean n item w u next v = (after : CheckedAnswers) → (before : CheckedAnswers)
-    × ((s : Port) → IsWorldPort w n u before s
-    → (t : Port) × CheckedShowsPlainly clean 0 item s t × IsWorldPort next n v after t)
+-- A step leads from one state to the other, whatever the bus is to answer after it: some bus answers so in between that
+-- it does.
+abbrev pub WorldSteps : (Port → Port → Type 0) → ℕ → World → WorldWords → World → WorldWords → Type 0
+WorldSteps step n w u next v = (after : CheckedAnswers) → (before : CheckedAnswers)
+    × ((s : Port) → IsWorldPort w n u before s → (t : Port) × step s t × IsWorldPort next n v after t)
 
--- each state that the second stands for is one to which the item leads from a state of the first
-pub record WorldGoes (clean : Bool) (n : ℕ) (item : Item) (w next : World) : Type 0 where
+-- each state that the second stands for is one to which a step leads from a state of the first
+pub record WorldGoes (step : Port → Port → Type 0) (n : ℕ) (w next : World) : Type 0 where
   pub sound : IsWorldSound w → IsWorldSound next
   pub each : IsWorldSound w → (v : WorldWords) → IsWorldExact next v
-      → (u : WorldWords) × IsWorldExact w u × WorldLeads clean n item w u next v
+      → (u : WorldWords) × IsWorldExact w u × WorldSteps step n w u next v
+
+-- a transaction before which no write is given up, to which the target answers OK where `okay` is true
+abbrev pub WorldTransacts : Bool → Bool → TxEnd → Request → Port → Port → Type 0
+WorldTransacts okay clean end q s t = (h : CheckedTransactsKept clean end q s t)
+    × (okay ≡ true → IsCheckedOkay clean end q s t h)
+
+-- an item
+abbrev pub WorldLeads : Bool → ℕ → Item → World → WorldWords → World → WorldWords → Type 0
+WorldLeads clean n item w u next v = WorldSteps (λ s t. CheckedShowsPlainly clean 0 item s t) n w u next v
 
 -- an item, the worlds before it, and the word that DPIDR returns
 pub record CheckedLink : Type 0 where
@@ -123,6 +134,13 @@ pub record LinkHas (link : CheckedLink) (w : World) : Type 0 where
   pub within : Contains link.from kept
   pub is : kept.world ≡ w
   pub sound : IsWorldSound w
+
+-- What the transaction leads to from this world is reached, where no write is given up before it. If `okay` is true,
+-- the target is known to answer OK.
+pub record LinkLeads (okay : Bool) (link : CheckedLink) (clean : Bool) (tx : Transaction) (w : World) : Type 0 where
+  pub sound : IsWorldSound w
+  pub goes : (next : World) → WorldGoes (WorldTransacts okay clean tx.result tx.request) link.identification w next
+      → WorldReaches link next
 
 -- DPIDR's word may be this one, and its bit 0 is 1
 pub record IsDpidrWord (known : Identification) (n : ℕ) : Type 0 where

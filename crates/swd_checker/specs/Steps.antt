@@ -12,7 +12,7 @@ use Rattle.swd_port.specs.Answers.{is_exempt_register, port_answer_by, is_port_u
 use Rattle.swd_port.specs.Asking.{debug_up_after, power_up_after}
 use Rattle.swd_port.specs.Registers.{register_bit, select_of}
 use Rattle.swd_checker.specs.Worlds.{World, Held, HeldUnknown, Power, PowerOff, PowerUnseen, PowerLate, PowerSeen}
-use Rattle.swd_checker.specs.Worlds.{is_checked_power_there}
+use Rattle.swd_checker.specs.Worlds.{is_checked_power_there, TransferWrite}
 use Rattle.swd_checker.specs.Described.{IsWorldNow, WorldDescribes, CheckedPower}
 use Rattle.swd_checker.specs.Words.{is_checked_power_on, is_checked_power_seen}
 
@@ -24,6 +24,11 @@ world_register w q = port_register_where w.mem_ap w.bank0 q.ap q.read q.addr
 abbrev pub world_due : World → Request → Reply
 world_due w q = port_answer_by w.reset w.sticky_error w.write_error
     (is_port_unpowered q.ap (is_checked_power_there w.debug)) (world_register w q)
+
+-- a write is pending, and the request can't wait for it
+pub record MayGiveUp (w : World) (q : Request) : Type 0 where
+  pub write : w.pending ≡ Some TransferWrite
+  pub exempt : is_exempt_register (world_register w q) ≡ true
 
 -- A world once OK was answered to a request, before what the request does. Where the request can be refused, nothing is
 -- pending, and debug power is as it is after the OK.

@@ -91,3 +91,7 @@ world_confirmed ap w = record (world_succeeded w) { debug = if ap then PowerSeen
 -- a write's data arrived damaged
 abbrev pub world_after_damage : World → World
 world_after_damage w = record w { write_error = true }
+
+-- the pending write was given up
+abbrev pub world_given_up : World → World
+world_given_up w = record w { pending = None; write_error = true }

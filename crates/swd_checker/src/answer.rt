@@ -1,8 +1,8 @@
 //! The answer that is due in a world.
-ghost use Rattle.std.specs.Prelude.{◌≡◌};
+ghost use Rattle.std.specs.Prelude.{◌≡◌, ◌↔◌, true};
 ghost use Rattle.swd_port.specs.Answers.{is_port_unpowered, port_is_answered};
 ghost use Rattle.swd_checker.specs.Worlds.{is_checked_power_there};
-ghost use Rattle.swd_checker.specs.Steps.{world_register, world_due};
+ghost use Rattle.swd_checker.specs.Steps.{world_register, world_due, MayGiveUp};
 
 use crate::world::World;
 use swd_bits::Request;
@@ -39,6 +39,14 @@ impl World {
         ensures { result ≡ is_port_unpowered request.ap (is_checked_power_there self.now.debug) }
     {
         request.ap && !self.debug.is_there()
+    }
+
+    /// Returns whether a target may give the pending write up before a request: the request is one that can't wait.
+    #[inline(always)]
+    pub(crate) fn may_give_up(&self, request: Request) -> bool
+        ensures { (result ≡ true) ↔ MayGiveUp self.now request }
+    {
+        !request.ap && self.is_writing() && self.register(request).is_exempt()
     }
 
     // Returns whether a request for the register is acknowledged.

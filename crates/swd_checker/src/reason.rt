@@ -213,13 +213,17 @@ fn fetched(world: World, origins: &Origins) -> Cause {
     }
 }
 
-// Returns the bits of CTRL/STAT that a read shows, requests of power first. Left out is a power that may be late, and
-// STICKYERR while a transfer is pending.
-fn status_bits(world: World, origins: &Origins) -> [Option<StatusBit>; 7] {
+// Returns the bits of CTRL/STAT that a read shows, requests of power first. Left out is a power that may be late,
+// STICKYERR while a transfer is pending, and WDATAERR while a write is that may have been given up: no bus error shows.
+fn status_bits(world: World, tx: &Tx, origins: &Origins) -> [Option<StatusBit>; 7] {
     [
         row(28, world.debug.is_on(), origins.debug),
         row(30, world.system.is_on(), origins.system),
-        row(7, world.write_error, origins.write_error),
+        if world.write_error || !world.is_writing() || differs(tx, 5, false) {
+            row(7, world.write_error, origins.write_error)
+        } else {
+            None
+        },
         if world.pending.is_none() || world.sticky_error {
             row(5, world.sticky_error, origins.sticky_error)
         } else {
@@ -256,7 +260,7 @@ fn one(n: u8) -> u32 {
 // Returns what CTRL/STAT reads, and a bit that differs.
 fn due_status(world: World, tx: &Tx, origins: &Origins) -> (Due, Cause) {
     let (mut value, mut mask, mut cause) = (0, 0, Cause::Always);
-    for row in status_bits(world, origins) {
+    for row in status_bits(world, tx, origins) {
         if let Some(
             StatusBit {
                 bit,

@@ -13,23 +13,25 @@ ghost use Rattle.swd_checker.specs.Described.{IsWorldNow, WorldDescribes, IsChec
 ghost use Rattle.swd_checker.specs.Described.{checked_near_at};
 ghost use Rattle.swd_checker.specs.Holding.{WorldsHold, WorldsKeep, WorldsHoldPort};
 ghost use Rattle.swd_checker.specs.Laws.{WorldDescribesPort};
-ghost use Rattle.swd_checker.specs.Steps.{WorldAccepts, world_due, world_cleared};
+ghost use Rattle.swd_checker.specs.Steps.{WorldAccepts, world_register, world_due, world_cleared};
 ghost use Rattle.swd_checker.specs.Asking.{IsAskedBy, IsAskedAlike, IsAskedAccepted, IsAskedTo};
 ghost use Rattle.swd_checker.specs.declared.step.Asked.{Asked};
 ghost use Rattle.swd_checker.specs.Adding.{WorldsReturn, WorldsPost, WorldsRead, WorldsFind, WorldsFindPowers};
 ghost use Rattle.swd_checker.specs.Adding.{WorldsArrive, WorldsDamage, WorldsLose, IsCheckedPrompt};
 ghost use Rattle.swd_checker.specs.Adding.{is_debug_late, is_system_late};
-ghost use Rattle.swd_checker.specs.Checked.{CheckedTransacts, CheckedHasMoved, WasCheckedLost};
+ghost use Rattle.swd_checker.specs.Checked.{CheckedTransacts, CheckedTransactsKept, CheckedHasMoved, WasCheckedLost};
+ghost use Rattle.swd_checker.specs.Checked.{IsCheckedOkay};
 ghost use Rattle.swd_checker.specs.Worlds.{Power, world_after_damage, world_failed};
 ghost use Rattle.swd_checker.specs.Words.{IsCheckedStatus};
 ghost use Rattle.swd_checker.specs.Steps.{checked_power_found};
 ghost use Rattle.swd_checker.specs.Exact.{IsNearSound};
 ghost use Rattle.swd_checker.specs.Reaching.{CheckedLink, WorldReaches, WorldsReach, HeldNarrows, LinkSteps, LinkHas};
+ghost use Rattle.swd_checker.specs.Reaching.{LinkLeads};
 ghost use Rattle.swd_checker.specs.Reaching.{checked_near_changed};
 ghost use Rattle.swd_checker.specs.Reached.{MayFault, WorldsRefuse, WorldsDefer, world_accepted, WorldsPostTar};
 ghost use Rattle.swd_checker.specs.Reached.{WorldsPostHeld, WorldsReturnAny, WorldsFindAll, WorldsReadStatus};
 ghost use Rattle.swd_checker.specs.Reached.{WorldsReadSeen, WorldsArriveAt, WorldsTransfer, WorldsMove};
-ghost use Rattle.swd_checker.specs.Reached.{WorldsLoseAny, WorldsLoseSeen};
+ghost use Rattle.swd_checker.specs.Reached.{WorldsLoseAny, WorldsLoseSeen, WorldsLoseOkay};
 
 use crate::after::{
     at_tar, cleared, live, may_clear, may_show, posted, powered, selecting, written,
@@ -63,6 +65,64 @@ impl Worlds {
     pub(crate) fn step(&mut self, world: World, faults: u64, tx: &Tx, clean: bool)
         ensures keeps { WorldsKeep self.old self.new }
         ensures steps { (s t : Port) → CheckedTransacts clean tx.now.result tx.now.request s t
+            → WorldDescribesPort world s → WorldsHoldPort self.new t }
+        ensures reaches { (link : CheckedLink) → WorldsReach link self.old
+            → LinkSteps link clean tx.now → LinkHas link world → WorldsReach link self.new }
+    {
+        self.step_kept(world, faults, tx, clean);
+        if world.may_give_up(tx.request) {
+            self.step_given_up(world.given_up(), faults, tx, clean);
+        }
+    }
+
+    // Adds the worlds after a transaction before which the pending write was given up, which leads to this world. The
+    // target answers OK to it.
+    #[inline(never)]
+    fn step_given_up(&mut self, world: World, faults: u64, tx: &Tx, clean: bool)
+        ensures keeps { WorldsKeep self.old self.new }
+        ensures steps { (s t : Port) → is_exempt_register (world_register world tx.now.request) ≡ true
+            → (h : CheckedTransactsKept clean tx.now.result tx.now.request s t)
+            → IsCheckedOkay clean tx.now.result tx.now.request s t h → WorldDescribesPort world s
+            → WorldsHoldPort self.new t }
+        ensures reaches { (link : CheckedLink) → WorldsReach link self.old
+            → LinkSteps link clean tx.now → LinkLeads true link clean tx.now world → WorldsReach link self.new }
+    {
+        let asked = Asked {
+            world,
+            request: tx.request,
+            register: world.register(tx.request),
+            faults,
+            clean,
+        };
+        match tx.result {
+            TxEnd::Moved { word, parity_ok } => self.moves(asked, word, parity_ok),
+            TxEnd::NoAck(_) => self.lose_okay(asked),
+            _ => {}
+        }
+    }
+
+    // Adds the worlds after OK that was lost.
+    fn lose_okay(&mut self, asked: Asked)
+        ensures keeps { WorldsKeep self.old self.new }
+        ensures loses { (seen : ℕ) (s t : Port) → IsAskedBy asked
+            → (h : WasCheckedLost asked.clean asked.request seen s t)
+            → IsCheckedOkay asked.clean (TxEnd.NoAck seen) asked.request s t h → WorldDescribesPort asked.world s
+            → WorldsHoldPort self.new t }
+        ensures reaches { (link : CheckedLink) → WorldsReach link self.old
+            → IsAskedBy asked
+            → (asked.clean ≡ false → WorldsLoseOkay link asked.world asked.request asked.register) →
+            WorldsReach link self.new }
+    {
+        if !asked.clean {
+            self.accept_unseen(asked.with_fault());
+        }
+    }
+
+    // Adds the worlds after a transaction before which no write was given up.
+    #[inline(always)]
+    fn step_kept(&mut self, world: World, faults: u64, tx: &Tx, clean: bool)
+        ensures keeps { WorldsKeep self.old self.new }
+        ensures steps { (s t : Port) → CheckedTransactsKept clean tx.now.result tx.now.request s t
             → WorldDescribesPort world s → WorldsHoldPort self.new t }
         ensures reaches { (link : CheckedLink) → WorldsReach link self.old
             → LinkSteps link clean tx.now → LinkHas link world → WorldsReach link self.new }
@@ -210,9 +270,7 @@ impl Worlds {
             → port_answer x lost.request ≡ Reply.Okay → IsCheckedPrompt c
             → WorldsHold self.new (not lost.request.read) (port_after_okay c lost.register x) }
         ensures reaches { (link : CheckedLink) → WorldsReach link self.old
-            → IsAskedBy lost → (world_due lost.world lost.request ≡ Reply.Okay → WorldsReturnAny link
-            (world_accepted (not lost.request.read) lost.register lost.request.ap lost.world) lost.register) →
-            WorldsReach link self.new }
+            → IsAskedBy lost → WorldsLoseOkay link lost.world lost.request lost.register → WorldsReach link self.new }
     {
         match lost.accepted(!lost.request.read) {
             Some(now) => self.return_unseen(now),

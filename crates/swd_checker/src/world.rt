@@ -2,7 +2,7 @@
 ghost use Rattle.std.specs.Prelude.{◌≡◌, ◌↔◌, IsTrue, true, false, Some, if◌then◌else◌};
 ghost use Rattle.swd_checker.specs.Worlds.{world_succeeded, world_failed, world_after_reset, world_after_wait};
 ghost use Rattle.swd_checker.specs.Worlds.{world_after_fault, world_after_damage, is_checked_power_there};
-ghost use Rattle.swd_checker.specs.Worlds.{world_made, world_confirmed, PowerSeen};
+ghost use Rattle.swd_checker.specs.Worlds.{world_made, world_confirmed, world_given_up, PowerSeen, TransferWrite};
 ghost use Rattle.swd_checker.specs.Words.{IsCheckedStatus, is_checked_power_on, is_checked_power_seen};
 ghost use Rattle.swd_checker.specs.Steps.{checked_power_requested, checked_power_found};
 ghost use Rattle.swd_checker.specs.Covering.{PowerIncludes, WorldIncludes, AreWorldsJoined, IsWorldAlike, IsWorldWider};
@@ -236,6 +236,24 @@ impl World {
             write_error: true,
             ..self
         }
+    }
+
+    /// Returns whether a write is pending.
+    #[inline(always)]
+    pub(crate) fn is_writing(&self) -> bool
+        ensures { (result ≡ true) ↔ (self.now.pending ≡ Some TransferWrite) }
+    {
+        matches!(&self.pending, Some(Transfer::Write))
+    }
+
+    /// Returns the world once the pending write was given up.
+    pub(crate) fn given_up(self) -> World
+        ensures { result ≡ world_given_up self }
+    {
+        let mut now = self;
+        now.pending = None;
+        now.write_error = true;
+        now
     }
 
     /// Returns whether all that the other explains is explained by this.

@@ -10,7 +10,7 @@ pub enum CommandLine {
     /// `swd one [FILE]`. Without a file it reads standard input.
     One(Option<String>),
     /// `swd decode [FILE] [--places] [--names]`, `swd decode [FILE] --count`, or
-    /// `swd decode [FILE] --accesses [--made]`. Each takes `--resync [--overrun]` too.
+    /// `swd decode [FILE] --accesses [--made | --rest]`. Each takes `--resync [--overrun]` too.
     Decode(DecodeLine),
     /// `swd draw [FILE] [--items N] [--names] [--resync [--overrun]]`.
     Draw(DrawLine),
@@ -30,7 +30,7 @@ pub enum CommandLine {
     /// `swd core ACTION [NAME..] [--halt] --remote[=IN,OUT] [--tries N] [--resume N] [--trace FILE]`, or with
     /// `--script` in place of a target.
     Core(CoreLine),
-    /// `swd conform --remote[=IN,OUT] --plain BASE WORDS [--hole ADDR] [--clean]`.
+    /// `swd conform --remote[=IN,OUT] --plain BASE WORDS [--hole ADDR] [--steps FILE] [--clean]`.
     Conform(ConformLine),
     /// `swd probes`. In each command `--probe FILE [--speed HERTZ] [--framed]` may take the place of
     /// `--remote[=IN,OUT]`.
@@ -56,6 +56,8 @@ pub struct DecodeLine {
     pub accesses: bool,
     /// Whether the target then begins in its reset state.
     pub made: bool,
+    /// Whether it begins at rest, with SELECT 0.
+    pub rest: bool,
     /// Whether the trace may begin in mid-session and lose bits.
     pub resync: bool,
     /// Whether a data phase then follows WAIT and FAULT at the beginning.
@@ -177,8 +179,8 @@ pub struct TargetLine {
     pub trace: Option<String>,
     /// IDR of the access port, if it has one.
     pub idr: Option<u32>,
-    /// The most bytes of a packet of CMSIS-DAP. `None` for a host of remote_bitbang.
-    pub packets: Option<u32>,
+    /// The size of packets of CMSIS-DAP that the host is told, 64 to 512 bytes. `None` for a host of remote_bitbang.
+    pub packet_size: Option<u32>,
 }
 
 /// The arguments of `swd info`.
@@ -216,6 +218,8 @@ pub struct ConformLine {
     pub plain: PlainWords,
     /// An address without memory, if one is named.
     pub hole: Option<u32>,
+    /// The file of the steps, if one is named. `None` for this project's own plan.
+    pub steps: Option<String>,
     /// Whether nothing is damaged or lost on the wire, as in a simulation.
     pub clean: bool,
 }

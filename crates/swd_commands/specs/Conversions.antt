@@ -12,6 +12,9 @@ use Rattle.swd_capture_text.specs.Captures.{Prints}
 use Rattle.swd_capture_text.specs.declared.reading.Reading.{Reading}
 use Rattle.swd_capture_text.specs.declared.reading.Reading.TheVariants.{Trace, Capture}
 use Rattle.swd_draw.specs.Draws.{Draws}
+use Rattle.swd_observer.specs.declared.trace.TraceStart.{TraceStart}
+use Rattle.swd_observer.specs.declared.trace.TraceStart.TheVariants.{Any as FromAny, Rest as FromRest}
+use Rattle.swd_observer.specs.declared.trace.TraceStart.TheVariants.{Made as FromReset}
 use Rattle.swd_checker.specs.declared.checker.CheckStart.{CheckStart}
 use Rattle.swd_checker.specs.declared.checker.CheckStart.TheVariants.{Made, Rest, Any}
 use Rattle.swd_check.specs.Checks.{WritesChecked}
@@ -30,12 +33,16 @@ use Rattle.swd_commands.specs.declared.conversion.Conversion.TheVariants.{One, E
 abbrev pub command_capture_reading : Bool → Bool → Reading
 command_capture_reading resync over = if resync then Capture over else Trace
 
+-- the state of the target before the first item, on which the accesses depend
+abbrev pub decode_command_start : DecodeLine → TraceStart
+decode_command_start decode = if decode.made then FromReset else if decode.rest then FromRest else FromAny
+
 -- what is printed: accesses, counts, lines with places or names, or the lines of a capture; otherwise the listing of a
 -- trace
 abbrev pub decode_command_conversion : DecodeLine → Conversion
 decode_command_conversion decode =
     let reading = command_capture_reading decode.resync decode.overrun in
-    if decode.accesses then Print reading (Accesses decode.made) else
+    if decode.accesses then Print reading (Accesses (decode_command_start decode)) else
     if decode.count then Print reading Counts else
     if (decode.places || decode.names) || decode.resync
     then Print reading (Lines (record { places = decode.places; names = decode.names })) else Listing

@@ -3,18 +3,28 @@ ghost use Rattle.std.specs.Prelude.{◌≡◌};
 ghost use Rattle.swd_commands.specs.Conversions.{command_status_of_conform as status_of};
 
 use crate::check::{checked_status, plain_memory};
-use crate::program::SHOWN;
+use crate::target::{TargetCommand, lead_to};
 use std::alloc::{Allocator, Global};
+use std::fmt;
+use std::fmt::{Display, Formatter};
 use std::io::{Read, Write};
 use swd_check::{Check, CheckOptions, Checked};
 use swd_checker::CheckStart;
-use swd_command_line::ConformLine;
-use swd_conform::{ConformRun, Conformed, LEAST_WORDS, Plan, Stop, Without};
-use swd_console::{
-    Clock, Console, FAULT, Files, KeepsError, STOPPED, Stream, Untold, Watched, gone_status,
-    line_streams, named_file_of, open_line, status_after, tell, tell_failure_or, way_of,
+use swd_command_line::{ConformLine, ProbeLine};
+use swd_conform::{
+    ConformRun, Conformed, LEAST_WORDS, MOST_STEPS, Plan, StepFault, StepTrouble, Steps, Stop,
+    Without,
 };
-use swd_remote::{Line, RemoteStreams, over_line};
+use swd_console::{
+    Clock, Console, Escaped, FAULT, Files, KeepsError, STOPPED, Stream, Untold, Watched,
+    at_the_target, cannot_open, cannot_use, gone_status, line_streams, name_or_nothing,
+    named_file_of, status_after, tell, tell_failure_or, unnamed_file,
+};
+use swd_image_ends::{FileFault, read_file};
+use swd_io::Unread;
+
+// The most bytes of a file of steps.
+const MOST_BYTES: u64 = 1 << 20;
 
 /// Carries out `swd conform`, over the files that lead to its target, or over the standard streams. The verdict goes to
 /// standard output; where that is the target's, it goes to standard error.
@@ -30,33 +40,162 @@ pub(crate) fn carry_out_conform<
     output: &mut O,
     console: &mut Console<'_, Global, F, C, E>,
 ) -> u8 {
-    let run = match begun(conform, console) {
-        Ok(run) => run,
+    let bytes = match steps_file(conform, console) {
+        Ok(bytes) => bytes,
         Err(status) => return status,
     };
-    match named_file_of(conform.remote.as_str()) {
-        Some(files) => {
-            let status = conform_over(conform, run, files, output, console);
-            status_after(output.kept_error(), status)
+    let steps = match steps_in(conform, &bytes, console.errors) {
+        Ok(steps) => steps,
+        Err(status) => return status,
+    };
+    let mut command = match begun(conform, steps, console) {
+        Ok(command) => command,
+        Err(status) => return status,
+    };
+    let (lead, to_probe) = (conform.remote.as_str(), conform.probe.is_some());
+    let status = lead_to(
+        TargetCommand::Conform(&mut command),
+        Some(lead),
+        to_probe,
+        input,
+        output,
+        console,
+    );
+    let Some(checked) = command.found else {
+        return status;
+    };
+    if named_file_of(lead).is_none() {
+        let _ = writeln!(console.errors, "{}", checked.line().as_str());
+        return status;
+    }
+    if writeln!(output, "{}", checked.line().as_str()).is_err() {
+        let streams = [Stream::output(output)];
+        let status = tell_failure_or(console.errors, streams.as_slice(), "write failed");
+        return status_after(output.kept_error(), status);
+    }
+    status
+}
+
+/// A run at its target, and the verdict, unless the other end is gone.
+#[derive(Drop)]
+pub(crate) struct Conforming<'a> {
+    probe: Option<ProbeLine>,
+    without: Without,
+    run: ConformRun<'a, Global>,
+    found: Option<Checked>,
+}
+
+impl Conforming<'_> {
+    /// Performs the run at the target to which these streams lead, and returns the status.
+    pub(crate) fn perform<I: Read + KeepsError, O: Write + KeepsError, F, C, E: Write>(
+        &mut self,
+        input: &mut I,
+        output: &mut O,
+        console: &mut Console<'_, Global, F, C, E>,
+    ) -> u8 {
+        let (probe, ends) = (self.probe, (input, output));
+        let (conformed, line, _) = at_the_target::<Untold, _, _, _, _>(
+            console.alloc,
+            &mut self.run,
+            probe,
+            false,
+            ends,
+        );
+        tell_sent(&conformed, console.errors);
+        if let Some(fault) = line.fault {
+            let _ = gone_status(console.errors, fault, line_streams(&line).as_slice());
+            return FAULT;
         }
-        None => {
-            if console.files.shows_output() {
-                return tell(console.errors, SHOWN);
-            }
-            // (a line that is closed is the other end's, which is gone)
-            conform_here(conform, run, input, output, console)
+        tell_run(self.without, &conformed, console.errors);
+        self.found = Some(conformed.checked);
+        conformed_status(&conformed)
+    }
+}
+
+// Returns the contents of the file of steps, if one is named. At an error it prints a line and returns the status 2.
+fn steps_file<A: Allocator + Copy, F: Files, C, E: Write>(
+    conform: &ConformLine,
+    console: &mut Console<'_, A, F, C, E>,
+) -> Result<Option<Vec<u8, A>>, u8> {
+    let Some(name) = &conform.steps else {
+        return Ok(None);
+    };
+    let name = name.as_str();
+    if named_file_of(name).is_none() {
+        return Err(cannot_open(console.errors, name, &unnamed_file()));
+    }
+    let mut reader = match console.files.open(name) {
+        Ok(opened) => Watched::new(opened.file),
+        Err(why) => return Err(cannot_open(console.errors, name, &why)),
+    };
+    match read_file(console.alloc, &mut reader, MOST_BYTES) {
+        Ok(bytes) => Ok(Some(bytes)),
+        Err(Unread::Consumer(FileFault::TooLong)) => {
+            Err(cannot_use(console.errors, name, &"it has more than 1 MiB"))
+        }
+        Err(_) => {
+            let streams = [Stream::read(name, &reader)];
+            Err(tell_failure_or(console.errors, streams.as_slice(), "no memory"))
         }
     }
 }
 
-// Returns a run for the memory of the arguments, and prints that the memory is overwritten. At an error it prints a
-// line and returns the status 2.
-fn begun<A: Allocator + Copy, F, C, E: Write>(
+// Returns the steps of these contents of a file, or without a file those of this project's plan. At an error it prints
+// a line and returns the status 2.
+fn steps_in<'a, A: Allocator, E: Write>(
     conform: &ConformLine,
-    console: &mut Console<'_, A, F, C, E>,
-) -> Result<ConformRun<A>, u8> {
+    bytes: &'a Option<Vec<u8, A>>,
+    errors: &mut E,
+) -> Result<Steps<'a>, u8> {
+    let Some(bytes) = bytes else {
+        return Ok(Steps::own());
+    };
+    let name = name_or_nothing(&conform.steps);
+    let Ok(text) = str::from_utf8(bytes.as_slice()) else {
+        return Err(cannot_use(errors, name, &"it is not UTF-8"));
+    };
+    match Steps::of(text) {
+        Ok(steps) => Ok(steps),
+        Err(fault) => Err(cannot_use(errors, name, &StepWhy(fault))),
+    }
+}
+
+// Why a file is no plan, and in which line.
+#[derive(Clone, Copy)]
+struct StepWhy<'a>(StepFault<'a>);
+
+impl Display for StepWhy<'_> {
+    fn fmt<W: fmt::Write>(&self, f: &mut Formatter<W>) -> fmt::Result {
+        let StepFault { line, trouble } = self.0;
+        write!(f, "line {line}: ")?;
+        match trouble {
+            StepTrouble::Line(word) => {
+                let word = Escaped(word);
+                write!(f, "'{word}' is none of #, needs, first, second and send")
+            }
+            StepTrouble::Needs(word) => {
+                let word = Escaped(word);
+                write!(f, "'{word}' is none of hole, page and kilobyte")
+            }
+            StepTrouble::Word(word) => {
+                let word = Escaped(word);
+                write!(f, "'{word}' is no step here: see swd conform --help")
+            }
+            StepTrouble::Unsent => f.write_str("a line send with a step is missing"),
+            StepTrouble::TooMany => write!(f, "more than {MOST_STEPS} steps"),
+        }
+    }
+}
+
+// Returns a run of these steps for the memory of the arguments, and prints that the memory is overwritten. At an error
+// it prints a line and returns the status 2.
+fn begun<'a, F, C, E: Write>(
+    conform: &ConformLine,
+    steps: Steps<'a>,
+    console: &mut Console<'_, Global, F, C, E>,
+) -> Result<Conforming<'a>, u8> {
     let (base, words) = (conform.plain.base, conform.plain.words);
-    let Some(plan) = Plan::new(base, words, conform.hole) else {
+    let Some(plan) = Plan::of(steps, base, words, conform.hole) else {
         let _ = if words < LEAST_WORDS {
             writeln!(
                 console.errors,
@@ -84,90 +223,22 @@ fn begun<A: Allocator + Copy, F, C, E: Write>(
         "swd: overwrites {words} words from {base:08x} on"
     );
     let check = Check::new(options, plain).with_untold(conform.probe.is_some());
-    Ok(ConformRun::new(plan, check))
-}
-
-// Performs a run at the target to which these files lead. The verdict goes to `output`.
-fn conform_over<O: Write + KeepsError, F: Files, C, E: Write>(
-    conform: &ConformLine,
-    run: ConformRun<Global>,
-    files: &str,
-    output: &mut O,
-    console: &mut Console<'_, Global, F, C, E>,
-) -> u8 {
-    let (sender, receiver) = match open_line(files, conform.probe.is_some(), console) {
-        Ok(opened) => opened,
-        Err(status) => return status,
-    };
-    let line = Line {
-        reader: Watched::line(sender.file),
-        writer: Watched::line(receiver.file),
-        way: way_of(conform.probe),
-    };
-    let (conformed, line) = perform(run, line);
-    if let Some(status) = lost_status(&conformed, &line, console) {
-        return status;
-    }
-    tell_run(conform, &conformed, console.errors);
-    if writeln!(output, "{}", conformed.checked.line().as_str()).is_err() {
-        let streams = [Stream::output(output)];
-        return tell_failure_or(console.errors, streams.as_slice(), "write failed");
-    }
-    conformed_status(&conformed)
-}
-
-// Performs a run at the target behind the standard streams. The verdict goes to standard error.
-fn conform_here<I: Read + KeepsError, O: Write + KeepsError, F, C, E: Write>(
-    conform: &ConformLine,
-    run: ConformRun<Global>,
-    input: &mut I,
-    output: &mut O,
-    console: &mut Console<'_, Global, F, C, E>,
-) -> u8 {
-    let line = Line {
-        reader: input,
-        writer: output,
-        way: way_of(conform.probe),
-    };
-    let (conformed, line) = perform(run, line);
-    if let Some(status) = lost_status(&conformed, &line, console) {
-        return status;
-    }
-    tell_run(conform, &conformed, console.errors);
-    let _ = writeln!(console.errors, "{}", conformed.checked.line().as_str());
-    conformed_status(&conformed)
-}
-
-// Performs a run over a line.
-fn perform<I: Read + Drop, O: Write + Drop>(
-    run: ConformRun<Global>,
-    line: Line<I, O>,
-) -> (Conformed, RemoteStreams<I, O>) {
-    let mut run = run;
-    over_line::<Untold, _, _, _>(&mut run, line)
-}
-
-// Prints why the other end is gone, if it is, and how far the run came. Returns the status 2 then.
-fn lost_status<A, I: KeepsError, O: KeepsError, F, C, E: Write>(
-    conformed: &Conformed,
-    line: &RemoteStreams<I, O>,
-    console: &mut Console<'_, A, F, C, E>,
-) -> Option<u8> {
-    let fault = line.fault?;
-    tell_sent(conformed, console.errors);
-    let _ = gone_status(console.errors, fault, line_streams(line).as_slice());
-    Some(FAULT)
+    Ok(Conforming {
+        probe: conform.probe,
+        without: plan.without(),
+        run: ConformRun::new(plan, check),
+        found: None,
+    })
 }
 
 // Prints how many requests and clocks were sent.
-fn tell_sent<E: Write>(conformed: &Conformed, errors: &mut E) {
+fn tell_sent<E: Write>(conformed: &Conformed<'_>, errors: &mut E) {
     let (requests, clocks) = (conformed.requests, conformed.clocks);
     let _ = writeln!(errors, "swd: {requests} requests, {clocks} clocks");
 }
 
-// Prints how many requests and clocks were sent, and what the run couldn't reach.
-fn tell_run<E: Write>(conform: &ConformLine, conformed: &Conformed, errors: &mut E) {
-    tell_sent(conformed, errors);
+// Prints what the run couldn't reach.
+fn tell_run<E: Write>(without: Without, conformed: &Conformed<'_>, errors: &mut E) {
     if !conformed.answered {
         let _ = writeln!(
             errors,
@@ -188,14 +259,11 @@ fn tell_run<E: Write>(conform: &ConformLine, conformed: &Conformed, errors: &mut
     if conformed.unrefused {
         let _ = writeln!(errors, "swd: a transfer at HOLE was no bus error");
     }
-    let plan = Plan::new(conform.plain.base, conform.plain.words, conform.hole);
-    if let Some(plan) = plan {
-        tell_without(plan.without(), errors);
-    }
+    tell_without(without, errors);
 }
 
 // Prints why the run ended early, if it did, and from which rule on the port wasn't tried.
-fn tell_stop<E: Write>(conformed: &Conformed, errors: &mut E) {
+fn tell_stop<E: Write>(conformed: &Conformed<'_>, errors: &mut E) {
     let why = match conformed.stop {
         None => return,
         Some(Stop::Waits) => "a request was answered WAIT 64 times",
@@ -218,7 +286,7 @@ fn has_faults(checked: &Checked) -> bool {
 
 // Returns the status of a run whose other end stayed: that of the verdict, but for `fits` 1 where a transfer at HOLE
 // was no bus error, and else 2 where no request was answered, or the run ended early.
-fn conformed_status(conformed: &Conformed) -> u8
+fn conformed_status(conformed: &Conformed<'_>) -> u8
     ensures { result ≡ status_of conformed.now.answered conformed.now.unrefused conformed.now.stop
         conformed.now.checked }
 {

@@ -5,7 +5,8 @@ ghost use Rattle.std.specs.String.{string_bytes};
 ghost use Rattle.swd_console.specs.Streams.{CommandEndsOver};
 ghost use Rattle.swd_commands.specs.Inputs.{IsStandardInput};
 ghost use Rattle.swd_commands.specs.Conversions.{ConvertsCommandInput, command_capture_reading};
-ghost use Rattle.swd_commands.specs.Conversions.{decode_command_conversion, draw_command_conversion};
+ghost use Rattle.swd_commands.specs.Conversions.{decode_command_conversion, decode_command_start};
+ghost use Rattle.swd_commands.specs.Conversions.{draw_command_conversion};
 
 use crate::character::{list_status, one_status, trace_status};
 use crate::check::check_read;
@@ -20,6 +21,7 @@ use swd_console::{
     status_after,
 };
 use swd_draw::{DrawnForm, draw_capture};
+use swd_observer::TraceStart;
 use swd_text::{decode_text, encode_text};
 
 /// What an input is converted to.
@@ -51,13 +53,27 @@ pub(crate) fn reading(resync: bool, over: bool) -> Reading
     }
 }
 
+// Returns what is known of the target before the first item.
+fn start_of(decode: &DecodeLine) -> TraceStart
+    ensures { result ≡ decode_command_start decode.now }
+{
+    if decode.made {
+        TraceStart::Made
+    } else if decode.rest {
+        TraceStart::Rest
+    } else {
+        TraceStart::Any
+    }
+}
+
 /// Returns what the arguments of `swd decode` ask for.
 pub(crate) fn decode_conversion<'a>(decode: &DecodeLine) -> Conversion<'a>
     ensures { result ≡ decode_command_conversion decode.now }
 {
     let reading = reading(decode.resync, decode.overrun);
     if decode.accesses {
-        return Conversion::Print(reading, Printed::Accesses { made: decode.made });
+        let start = start_of(decode);
+        return Conversion::Print(reading, Printed::Accesses { start });
     }
     if decode.count {
         return Conversion::Print(reading, Printed::Counts);

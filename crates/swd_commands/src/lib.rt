@@ -9,6 +9,7 @@ mod conform;
 mod conversion;
 mod probes;
 mod program;
+mod target;
 mod usage;
 
 pub use arguments::run_arguments;

@@ -1,27 +1,27 @@
 //! Carries out the program's arguments.
-ghost use Rattle.std.specs.Prelude.{◌≡◌, ◌≢◌, ◌⊎◌, IfNone, IfSome, IsSomeAnd, codes, is_some};
+ghost use Rattle.std.specs.Prelude.{◌≡◌, ◌≢◌, ◌⊎◌, IsSomeAnd, codes, is_some};
 ghost use Rattle.std.specs.Option.{option_map};
 ghost use Rattle.std.specs.String.{string_bytes};
 ghost use Rattle.swd_console.specs.Statuses.{CommandNotOpened};
 ghost use Rattle.swd_console.specs.Streams.{CommandEndsOver};
-ghost use Rattle.swd_commands.specs.Inputs.{CommandHasLine, CommandReadsStdin, command_remote, command_served_file};
+ghost use Rattle.swd_run_commands.specs.Runs.{PerformsRunCommandWhere};
+ghost use Rattle.swd_commands.specs.Inputs.{CommandHasLine, CommandReadsStdin, command_served_file};
 ghost use Rattle.swd_commands.specs.Statuses.{PerformsCommand};
 
 use crate::conform::carry_out_conform;
 use crate::conversion::{Conversion, convert, decode_conversion, draw_conversion};
 use crate::probes::carry_out_probes;
+use crate::target::{TargetCommand, lead_to};
 use crate::usage::tell_usage;
 use clap::Error;
 use std::alloc::Global;
 use std::io::{Read, Write};
-use swd_command_line::{CommandLine, ImageLine, ServedMemory, TargetLine};
+use swd_command_line::{CommandLine, ImageLine, RunLine, ServedMemory, TargetLine};
 use swd_console::{
-    Clock, Console, DONE, FAULT, Files, KeepsError, LineFiles, Stream, Untold, Watched,
-    cannot_open, named_file_of, open_line, status_after, tell, tell_failure, tell_info,
-    tell_session, unnamed_file,
+    Clock, Console, DONE, FAULT, Files, KeepsError, Stream, Watched, cannot_open, named_file_of,
+    status_after, tell, tell_failure, unnamed_file,
 };
-use swd_image_commands::perform_image;
-use swd_run_commands::{perform_core, perform_info, perform_run, perform_target, print_core};
+use swd_run_commands::{perform_run, perform_target};
 use swd_words::{LineFault, line};
 
 /// Carries out the arguments, the program's name first, and returns the status. Standard output gets the requested
@@ -93,10 +93,6 @@ fn print_help<O: Write + KeepsError, E: Write>(error: &Error, output: &mut O, er
     FAULT
 }
 
-pub(crate) const SHOWN: &str = "\
---remote: standard output is a terminal, not a target's line: connect it, as by \
-swd-line localhost:4711 -- swd .., or name files, --remote=IN,OUT";
-
 // Returns an argument that may not be given.
 fn given(argument: &Option<String>) -> Option<&str>
     ensures { option_map (λ s. s.now) result ≡ option_map string_bytes argument.now }
@@ -107,107 +103,7 @@ fn given(argument: &Option<String>) -> Option<&str>
     }
 }
 
-// Returns what leads to the target of a command, if that is remote.
-fn remote_of(line: &CommandLine) -> Option<&str>
-    ensures { option_map (λ s. s.now) result ≡ command_remote line.now }
-{
-    match line {
-        CommandLine::Run(run) => given(&run.remote),
-        CommandLine::Image(image) => given(&image.remote),
-        CommandLine::Info(info) => Some(info.remote.as_str()),
-        CommandLine::Core(core) => given(&core.run.remote),
-        _ => None,
-    }
-}
-
-// Returns whether a command's target is behind a probe.
-fn is_probe(line: &CommandLine) -> bool {
-    match line {
-        CommandLine::Run(run) => run.probe.is_some(),
-        CommandLine::Image(image) => image.probe.is_some(),
-        CommandLine::Info(info) => info.probe.is_some(),
-        CommandLine::Core(core) => core.run.probe.is_some(),
-        _ => false,
-    }
-}
-
-// Returns whether a command speaks to a remote target.
-fn is_remote(line: &CommandLine) -> bool
-    ensures { result ≡ is_some (command_remote line.now) }
-{
-    remote_of(line).is_some()
-}
-
-// Returns the files that lead to the target of a command in place of the standard streams, if it names them, unless it
-// is to read another file from standard input.
-fn line_files(line: &CommandLine) -> Option<&str>
-    ensures some { IfSome result (λ _. CommandReadsStdin line.now → ⊥) }
-    ensures none { IfNone result (CommandHasLine line.now → ⊥) }
-{
-    match line {
-        CommandLine::Run(run) => files_beside(given(&run.remote), run.script.as_str()),
-        CommandLine::Image(image) => files_beside(given(&image.remote), image.file.as_str()),
-        CommandLine::Info(info) => files_beside(Some(info.remote.as_str()), ""),
-        CommandLine::Core(core) => files_beside(given(&core.run.remote), ""),
-        _ => None,
-    }
-}
-
-// Returns these files, unless they are the standard streams, or the other name is that of standard input.
-fn files_beside<'a>(files: Option<&'a str>, name: &str) -> Option<&'a str>
-    ensures some { IfSome result (λ _. name.now ≢ codes "-") }
-    ensures none { IfNone result (IsSomeAnd (option_map (λ s. s.now) files.entry) (λ files. files ≢ codes "-")
-        → name.now ≢ codes "-" → ⊥) }
-{
-    let files = named_file_of(files?)?;
-    match named_file_of(name) {
-        Some(_) => Some(files),
-        None => None,
-    }
-}
-
-// Performs a command at the target to which these files lead.
-fn carry_out_over<F: Files, C: Clock, E: Write>(
-    line: &CommandLine,
-    files: &str,
-    console: &mut Console<'_, Global, F, C, E>,
-) -> u8 {
-    let (input, output) = match open_line(files, is_probe(line), console) {
-        Ok(opened) => opened,
-        Err(status) => return status,
-    };
-    let files = LineFiles {
-        files: console.files,
-        input: input.identity,
-        output: output.identity,
-    };
-    let console = Console {
-        alloc: console.alloc,
-        files: &files,
-        clock: console.clock,
-        errors: &mut *console.errors,
-    };
-    perform_over(
-        line,
-        Watched::line(input.file),
-        Watched::line(output.file),
-        console,
-    )
-}
-
-// Performs a command at the target to which these streams lead.
-fn perform_over<
-    I: Read + KeepsError + Drop,
-    O: Write + KeepsError + Drop,
-    F: Files,
-    C: Clock,
-    E: Write,
->(line: &CommandLine, input: I, output: O, console: Console<'_, Global, F, C, E>) -> u8 {
-    let (mut input, mut output, mut console) = (input, output, console);
-    perform(line, &mut input, &mut output, &mut console)
-}
-
-// Performs the command, over the files that lead to its target, or over the standard streams.
+// Performs the command.
 fn carry_out<I: Read + KeepsError, O: Write + KeepsError, F: Files, C: Clock, E: Write>(
     line: &CommandLine,
     input: &mut I,
@@ -219,41 +115,6 @@ fn carry_out<I: Read + KeepsError, O: Write + KeepsError, F: Files, C: Clock, E:
         (O.contents output.old) (O.contents output.new)) result }
     ensures line { CommandHasLine line.now → (I.remaining input.new ≡ I.remaining input.old)
         × (O.contents output.new ≡ O.contents output.old) }
-{
-    match line_files(line) {
-        Some(files) => carry_out_over(line, files, console),
-        None => carry_out_here(line, input, output, console),
-    }
-}
-
-// Performs the command over the standard streams. In a terminal none speaks to a target: its characters would fill the
-// screen.
-fn carry_out_here<I: Read + KeepsError, O: Write + KeepsError, F: Files, C: Clock, E: Write>(
-    line: &CommandLine,
-    input: &mut I,
-    output: &mut O,
-    console: &mut Console<'_, Global, F, C, E>,
-) -> u8
-    ensures { CommandReadsStdin line.now → CommandEndsOver (O.kept output.new)
-        (λ status. PerformsCommand line.now status (I.remaining input.old) (I.remaining input.new)
-        (O.contents output.old) (O.contents output.new)) result }
-{
-    if is_remote(line) && console.files.shows_output() {
-        return status_after(output.kept_error(), tell(console.errors, SHOWN));
-    }
-    perform(line, input, output, console)
-}
-
-// Performs the command at whatever the streams are.
-fn perform<I: Read + KeepsError, O: Write + KeepsError, F: Files, C: Clock, E: Write>(
-    line: &CommandLine,
-    input: &mut I,
-    output: &mut O,
-    console: &mut Console<'_, Global, F, C, E>,
-) -> u8
-    ensures { CommandReadsStdin line.now → CommandEndsOver (O.kept output.new)
-        (λ status. PerformsCommand line.now status (I.remaining input.old) (I.remaining input.new)
-        (O.contents output.old) (O.contents output.new)) result }
 {
     match line {
         CommandLine::One(file) => convert(Conversion::One, file, input, output, console),
@@ -275,23 +136,42 @@ fn perform<I: Read + KeepsError, O: Write + KeepsError, F: Files, C: Clock, E: W
                 console,
             )
         }
-        CommandLine::Run(run) => perform_run(run, input, output, console),
+        CommandLine::Run(run) => carry_out_run(run, input, output, console),
         CommandLine::Target(target) => carry_out_target(target, input, output, console),
         CommandLine::Image(image) => carry_out_image(image, input, output, console),
         CommandLine::Conform(conform) => carry_out_conform(conform, input, output, console),
         CommandLine::Info(info) => {
-            let (status, line) = perform_info::<Untold, _, _, _, _, _, _>(
-                info, input, output, console,
-            );
-            tell_info(console.errors, status, &line);
-            status
+            let (command, lead) = (TargetCommand::Info(info), Some(info.remote.as_str()));
+            lead_to(command, lead, info.probe.is_some(), input, output, console)
         }
-        CommandLine::Core(core) if core.script => print_core(core, output, console),
-        CommandLine::Core(core) => perform_core::<Untold, _, _, _, _, _, _>(
-            core, input, output, console,
-        ).0,
+        CommandLine::Core(core) => {
+            let (command, run) = (TargetCommand::Core(core), &core.run);
+            let lead = given(&run.remote);
+            lead_to(command, lead, run.probe.is_some(), input, output, console)
+        }
         CommandLine::Probes => carry_out_probes(output, console),
     }
+}
+
+// Performs a run. Where its script is standard input, nothing leads to another target.
+fn carry_out_run<I: Read + KeepsError, O: Write + KeepsError, F: Files, C: Clock, E: Write>(
+    run: &RunLine,
+    input: &mut I,
+    output: &mut O,
+    console: &mut Console<'_, Global, F, C, E>,
+) -> u8
+    ensures reads { string_bytes run.now.script ≡ codes "-" → CommandEndsOver (O.kept output.new)
+        (λ status. PerformsRunCommandWhere (is_some run.now.remote) run.now status (I.remaining input.old)
+        (O.contents output.old) (O.contents output.new)) result }
+    ensures line { IsSomeAnd (option_map string_bytes run.now.remote) (λ files. files ≢ codes "-")
+        → string_bytes run.now.script ≢ codes "-"
+        → (I.remaining input.new ≡ I.remaining input.old) × (O.contents output.new ≡ O.contents output.old) }
+{
+    if named_file_of(run.script.as_str()).is_none() {
+        return perform_run(run, input, output, console);
+    }
+    let (command, lead) = (TargetCommand::Run(run), given(&run.remote));
+    lead_to(command, lead, run.probe.is_some(), input, output, console)
 }
 
 // Performs `swd target`. Standard input is the debugger's, so the memory is in a file.
@@ -329,16 +209,16 @@ fn carry_out_image<I: Read + KeepsError, O: Write + KeepsError, F: Files, C: Clo
     output: &mut O,
     console: &mut Console<'_, Global, F, C, E>,
 ) -> u8
-    ensures { string_bytes image.now.file ≡ codes "-"
+    ensures reads { string_bytes image.now.file ≡ codes "-"
         → CommandEndsOver (O.kept output.new)
         (λ status. CommandNotOpened status (O.contents output.old) (O.contents output.new)) result }
+    ensures line { IsSomeAnd (option_map string_bytes image.now.remote) (λ files. files ≢ codes "-")
+        → string_bytes image.now.file ≢ codes "-"
+        → (I.remaining input.new ≡ I.remaining input.old) × (O.contents output.new ≡ O.contents output.old) }
 {
     if named_file_of(image.file.as_str()).is_some() {
-        let (status, line) = perform_image::<Untold, _, _, _, _, _, _>(
-            image, input, output, console,
-        );
-        tell_session(console.errors, status, &line);
-        return status;
+        let (command, lead) = (TargetCommand::Image(image), given(&image.remote));
+        return lead_to(command, lead, image.probe.is_some(), input, output, console);
     }
     let status = match &image.memory {
         Some(_) => cannot_open(console.errors, "-", &unnamed_file()),

@@ -11,8 +11,10 @@ mod run;
 mod send;
 mod session;
 mod steps;
+mod steps_text;
 
 pub use over_wire::conform;
 pub use plan::{LEAST_WORDS, MOST_STEPS, Plan, Step, Without};
 pub use run::{ConformRun, Conformed, REQUESTS_PER_STEP, Stop};
 pub use session::{SessionCheck, over_checked_line};
+pub use steps_text::{StepFault, StepTrouble, Steps};

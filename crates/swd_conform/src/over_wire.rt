@@ -19,10 +19,14 @@ use swd_remote::LineJob;
 ///
 /// It makes at most [`REQUESTS_PER_STEP`] requests for each step. It leaves out a request of a transfer that could be
 /// at another address than that of one of the plan's words, or the one without memory.
-pub fn conform<W: Wire, A: Allocator + Copy>(wire: &mut W, plan: Plan, check: Check<A>) -> Conformed
+pub fn conform<'a, W: Wire, A: Allocator + Copy>(
+    wire: &mut W,
+    plan: Plan<'a>,
+    check: Check<A>,
+) -> Conformed<'a>
     requires { (W.port wire.old).link.due ≡ Nothing }
-    ensures reports { HostCalls W.notes (ConformReports plan.bounds check result) wire.old wire.new }
-    ensures bound { result.requests ≤ REQUESTS_PER_STEP * conform_steps_left plan }
+    ensures reports { HostCalls W.notes (ConformReports plan.entry.bounds check result) wire.old wire.new }
+    ensures bound { result.requests ≤ REQUESTS_PER_STEP * conform_steps_left plan.entry }
 {
     let mut run = ConformRun::new(plan, check);
     'steps: loop {
@@ -33,15 +37,15 @@ pub fn conform<W: Wire, A: Allocator + Copy>(wire: &mut W, plan: Plan, check: Ch
 }
 
 // Over a line whose other end is gone nothing more is sent.
-impl<A: Allocator + Copy> LineJob for ConformRun<A> {
-    type Answer = Conformed;
+impl<'a, A: Allocator + Copy> LineJob for ConformRun<'a, A> {
+    type Answer = Conformed<'a>;
 
     ghost came = { λ story old new answer calls. ConformCame old answer calls };
 
     fn perform<T: Transport, S: Story>(
         &mut self,
         wire: TransportWire<T, S, Tied>,
-    ) -> (Conformed, TransportWire<T, S, Tied>) {
+    ) -> (Conformed<'a>, TransportWire<T, S, Tied>) {
         let mut wire = wire;
         'steps: loop {
             if !turn_unless_gone(self, &mut wire) {
@@ -53,7 +57,7 @@ impl<A: Allocator + Copy> LineJob for ConformRun<A> {
 
 // Sends the next step, unless the other end is gone. Returns whether another step follows.
 fn turn_unless_gone<T: Transport, S: Story, A: Allocator + Copy>(
-    run: &mut ConformRun<A>,
+    run: &mut ConformRun<'_, A>,
     wire: &mut TransportWire<T, S, Tied>,
 ) -> bool
     ensures goes { ConformGoes (λ calls w. wire_calls w ≡ calls) wire.old run.old wire.new run.new }

@@ -3,7 +3,7 @@ ghost use Rattle.std.specs.Prelude.{◌≡◌, ◌+◌, ◌≤◌, IfNone, IfSom
 
 use crate::aim::Bounds;
 use crate::send::{Send, Word};
-use crate::steps::STEPS;
+use crate::steps_text::Steps;
 use swd_bits::Request;
 
 /// The least number of words of memory that a plan is made for.
@@ -51,15 +51,15 @@ pub struct Without {
 
 // A group: the words of a round, what is left of the words of `first` and of `second`, and all of the latter.
 #[derive(Clone, Copy)]
-struct Group {
-    words: &'static str,
-    first: &'static str,
-    second: &'static str,
-    seconds: &'static str,
+struct Group<'a> {
+    words: &'a str,
+    first: &'a str,
+    second: &'a str,
+    seconds: &'a str,
 }
 
 // A group without words.
-const EMPTY: Group = Group {
+const EMPTY: Group<'static> = Group {
     words: "",
     first: "",
     second: "",
@@ -72,12 +72,13 @@ const EMPTY: Group = Group {
 /// makes no transfer at another address than that of one of the words that the plan was made for, or the one without
 /// memory. [`ConformRun`](crate::ConformRun) leaves out those that could be elsewhere.
 #[derive(Clone, Copy)]
-pub struct Plan {
+pub struct Plan<'a> {
     // What is left of the text, the rule that the group reaches, what is left of the round, and the group.
-    text: &'static str,
-    pub(crate) rule: &'static str,
-    round: &'static str,
-    group: Group,
+    text: &'a str,
+    pub(crate) rule: &'a str,
+    round: &'a str,
+    group: Group<'a>,
+    needs: Without,
     memory: u32,
     page: Option<u32>,
     kilobyte: Option<u32>,
@@ -87,14 +88,24 @@ pub struct Plan {
     ghost few: { left ≤ 2000 },
 }
 
-impl Plan {
+impl<'a> Plan<'a> {
     ghost use Rattle.swd_conform.specs.Aims.{conform_bounds};
     ghost use Rattle.swd_conform.specs.Plans.{IsConformMemory, conform_steps_left};
 
-    /// Returns a plan for this many words of memory from `base` on, a multiple of 4, and an address without memory, a
-    /// multiple of 4 that isn't one of these. The words are at least [`LEAST_WORDS`], and none is past `ffffffff`;
-    /// otherwise it returns `None`.
-    pub fn new(base: u32, words: u32, hole: Option<u32>) -> Option<Plan>
+    /// Returns this project's own plan, for memory as [`Plan::of`] takes it.
+    pub fn new(base: u32, words: u32, hole: Option<u32>) -> Option<Plan<'static>>
+        ensures steps { IfSome result (λ plan. conform_steps_left plan ≡ MOST_STEPS) }
+        ensures bounds { IfSome result (λ plan. plan.bounds ≡ conform_bounds base words hole) }
+        ensures some { IfSome result (λ _. IsConformMemory base words hole) }
+        ensures none { IfNone result (IsConformMemory base words hole → ⊥) }
+    {
+        Plan::of(Steps::own(), base, words, hole)
+    }
+
+    /// Returns the plan of these steps for this many words of memory from `base` on, a multiple of 4, and an address
+    /// without memory, a multiple of 4 that isn't one of these. The words are at least [`LEAST_WORDS`], and none is
+    /// past `ffffffff`; otherwise it returns `None`.
+    pub fn of(steps: Steps<'a>, base: u32, words: u32, hole: Option<u32>) -> Option<Plan<'a>>
         ensures steps { IfSome result (λ plan. conform_steps_left plan ≡ MOST_STEPS) }
         ensures bounds { IfSome result (λ plan. plan.bounds ≡ conform_bounds base words hole) }
         ensures some { IfSome result (λ _. IsConformMemory base words hole) }
@@ -110,10 +121,11 @@ impl Plan {
             return None;
         }
         let mut plan = Plan {
-            text: STEPS,
+            text: steps.text,
             rule: "",
             round: "",
             group: EMPTY,
+            needs: steps.needs,
             memory: first_of(base),
             page: page_in(base, end),
             kilobyte: within(last_of_kilobyte(base), end),
@@ -132,9 +144,9 @@ impl Plan {
     /// Returns what the plan leaves out.
     pub fn without(&self) -> Without {
         Without {
-            errors: self.bounds.hole.is_none(),
-            page: self.page.is_none(),
-            kilobyte: self.kilobyte.is_none(),
+            errors: self.needs.errors && self.bounds.hole.is_none(),
+            page: self.needs.page && self.page.is_none(),
+            kilobyte: self.needs.kilobyte && self.kilobyte.is_none(),
         }
     }
 
@@ -156,7 +168,7 @@ impl Plan {
     }
 
     // Returns the word of `first` or `second` for which this one stands, or this one.
-    fn meant(&self, word: &'static str) -> &'static str {
+    fn meant(&self, word: &'a str) -> &'a str {
         match word {
             "1" => word_in(self.group.first).0,
             "2" => word_in(self.group.second).0,
@@ -239,7 +251,7 @@ impl Plan {
             let (name, words) = word_in(line);
             match name {
                 "#" => self.rule = words,
-                "needs" => is_sent = self.has(words),
+                "needs" => is_sent = is_sent && self.has(words),
                 "first" => group.first = words,
                 "second" => group.seconds = words,
                 "send" if is_sent => {
@@ -256,7 +268,7 @@ impl Plan {
     }
 
     // Begins the first round of a group.
-    fn begin(&mut self, group: Group)
+    fn begin(&mut self, group: Group<'a>)
         ensures left { conform_steps_left self.new ≡ conform_steps_left self.old }
         ensures bounds { self.new.bounds ≡ self.old.bounds }
     {
@@ -274,13 +286,14 @@ impl Plan {
     }
 }
 
-// Returns the first line of a text, and what follows.
-fn line_in(text: &'static str) -> (&'static str, &'static str) {
-    text.split_once('\n').unwrap_or((text, ""))
+// Returns the first line of a text, without a carriage return at its end, and what follows.
+fn line_in(text: &str) -> (&str, &str) {
+    let (line, text) = text.split_once('\n').unwrap_or((text, ""));
+    (line.strip_suffix('\r').unwrap_or(line), text)
 }
 
-// Returns the first word of a line, and the words behind it.
-fn word_in(line: &'static str) -> (&'static str, &'static str) {
+/// Returns the first word of a line, and the words behind it.
+pub(crate) fn word_in(line: &str) -> (&str, &str) {
     let (word, words) = line.split_once(' ').unwrap_or((line, ""));
     (word, words.trim_start())
 }

@@ -69,7 +69,7 @@ pub enum Stop {
 
 /// What a conformance run found.
 #[derive(Clone, Copy, Debug, PartialEq, Eq)]
-pub struct Conformed {
+pub struct Conformed<'a> {
     /// What the check says of the items that were sent and seen.
     pub checked: Checked,
     /// The number of requests that were sent.
@@ -85,7 +85,7 @@ pub struct Conformed {
     /// Why it ended early, if it did.
     pub stop: Option<Stop>,
     /// The rule that the last requests were to reach.
-    pub rule: &'static str,
+    pub rule: &'a str,
 }
 
 // A request of a run.
@@ -98,8 +98,8 @@ struct Asked {
 
 /// A conformance run over a wire.
 #[derive(Drop)]
-pub struct ConformRun<A: Allocator> {
-    pub(crate) plan: Plan,
+pub struct ConformRun<'a, A: Allocator> {
+    pub(crate) plan: Plan<'a>,
     pub(crate) items: CheckedItems<A>,
     in_hand: Option<InHand>,
     pub(crate) bounds: Bounds,
@@ -124,13 +124,13 @@ pub struct ConformRun<A: Allocator> {
     ghost stays: { ∥ ConformStays bounds noted.calls ∥₁ },
 }
 
-impl<A: Allocator + Copy> ConformRun<A> {
+impl<'a, A: Allocator + Copy> ConformRun<'a, A> {
     ghost use Rattle.swd_conform.specs.Runs.{ConformBegins, ConformFinds, ConformGoes, ConformMakes};
     ghost use Rattle.swd_conform.specs.Runs.{ConformHasRoom, ConformSpends, conform_run_left};
 
     /// Returns a run that made no call yet. The check takes the items of what is sent and seen.
-    pub fn new(plan: Plan, check: Check<A>) -> ConformRun<A>
-        ensures { ConformBegins plan check result }
+    pub fn new(plan: Plan<'a>, check: Check<A>) -> ConformRun<'a, A>
+        ensures { ConformBegins plan.entry check result }
     {
         ConformRun {
             plan,
@@ -171,7 +171,7 @@ impl<A: Allocator + Copy> ConformRun<A> {
     }
 
     /// Returns what was found so far.
-    pub fn conformed(&self) -> Conformed
+    pub fn conformed(&self) -> Conformed<'a>
         ensures { ConformFinds self.now result }
     {
         Conformed {

@@ -19,6 +19,7 @@ mod reason;
 mod report;
 mod sample;
 mod streams;
+mod target;
 mod verdict;
 mod watched;
 
@@ -36,7 +37,6 @@ pub use memory_file::{HeldMemory, MemoryFile, read_target_files, write_back};
 pub use noted::{Seen, SeenLine, TrackedReader};
 pub use open_files::{Files, Identity, Opened};
 pub use pace::Pace;
-pub use probe::way_of;
 pub use reached::{tell_info, tell_session};
 pub use reason::{script_status, texts_status};
 pub use report::{
@@ -48,5 +48,6 @@ pub use streams::{
     ERRORS, INPUT, Stream, conversion_status, name_or_nothing, status_after, streams_status,
     tell_failure, tell_failure_or,
 };
+pub use target::at_the_target;
 pub use verdict::session_status;
 pub use watched::{KeepsError, Watched};

@@ -1,3 +1,4 @@
+pub mod AccessLemmas
 pub mod ClockLemmas
 pub mod RemoteLemmas
 pub mod LogLemmas

@@ -1,4 +1,5 @@
 pub mod ClockedProbes
+pub mod AccessRuns
 pub mod LiveFiles
 pub mod OneLine
 pub mod RemoteRuns

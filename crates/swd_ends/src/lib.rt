@@ -3,6 +3,7 @@
 //! [`serve_logged`] serves that host and writes the target's log.
 #![tactic(auto)]
 
+mod accesses_job;
 mod clocked_probe;
 pub mod laws;
 mod live_files;
@@ -12,6 +13,7 @@ mod run_job;
 mod serving;
 mod target_log;
 
+pub use accesses_job::AccessesJob;
 pub use clocked_probe::ClockedProbe;
 pub use live_files::{LiveFiles, serve_logged};
 pub use remote::{RemoteFault, RemoteRan, run_remote};

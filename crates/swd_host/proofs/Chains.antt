@@ -1,6 +1,7 @@
 -- A call and the calls of `resume` after it: from the ports to the memories, and which accesses were done. For the law
 -- `resumptions`.
-use Rattle.swd_host.proofs.Words.{◌≡◌, ◌+◌, ◌-◌, ◌<◌, ◌≤◌, ℕ, refl, sym, ap, subst, arith, ◌∙◌, List, [], ◌∷◌, ◌++◌}
+use Rattle.swd_host.proofs.Words.{◌≡◌, ◌+◌, ◌-◌, ◌<◌, ◌≤◌, ℕ, refl, sym, ap, subst, inl, inr, arith, ◌∙◌, List, [], ◌∷◌}
+use Rattle.swd_host.proofs.Words.{◌++◌}
 use Rattle.swd_host.proofs.Words.{length, take, drop, zero, suc, length-append, ◌==◌, Bool, true, false, max, ◌≢◌}
 use Rattle.swd_host.proofs.Words.{Access, Bus, Port, MayBecome, End, All, Lost, HostEndsAt, HostKnowsTarget}
 use Rattle.swd_host.proofs.Words.{IsAtRest, HostReport, Fits, FitsFromAt, memory_after, resume_repeats_of}
@@ -40,7 +41,10 @@ module _ (kind : Bursts) (list : List Access) (s : Port) (rest : IsAtRest s) whe
   -- each that the last port may become
   pub chained : (calls : List HostReport) (told : HostReport) (t : Port) → ResumedCalls kind list s calls told t
       → (now : Bus) → MayBecome t now → ResumeChain (bursts_limit kind) list s.target.memory calls told now
-  chained calls told t (ran {told = a} {t = u} tries runs) now (c, i, is) =
+  unfolding MayBecome
+  chained calls told t (ran {told = a} {t = u} tries runs) now (inl given) =
+      first (subst (Fits (bursts_limit kind) list s.target.memory a) (sym given.1) ((runs rest).now))
+  chained calls told t (ran {told = a} {t = u} tries runs) now (inr (c, i, is)) =
       first (subst (Fits (bursts_limit kind) list s.target.memory a) (sym is) ((runs rest).later c))
   chained calls told t (resumed {calls = before} {earlier = e} {told = a} {t = u} {u = v} went next tries kept over) now
       may =

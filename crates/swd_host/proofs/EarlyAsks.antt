@@ -12,9 +12,13 @@ use Rattle.swd_host.proofs.Words.{ResumedAfterReset, ResumedAwake, ResumedAbortW
 use Rattle.swd_host.proofs.Words.{ResumedFlagsOwed, ResumedFlagsCleared, ResumedBefore, ResumedSelectSettled}
 use Rattle.swd_host.proofs.Words.{ResumedOpeningIsOver, ResumedDuring, ResumedOpeningSawAck}
 use Rattle.swd_port.specs.Moves.{PortKept}
-use Rattle.swd_port.proofs.CompletionLaws.{no_pending_same, port_kept as kept_by}
+use Rattle.swd_port.proofs.CompletionLaws.{no_pending_same, port_kept as kept_by, port_may_become_of_none}
 use Rattle.swd_port.proofs.RequestLaws.{port_exempt_request, port_identification_read, port_free_request}
 use Rattle.swd_port.proofs.RequestLaws.{port_lost_request}
+use Rattle.swd_port.specs.Asking.{is_pending_write}
+use Rattle.swd_host.proofs.Words.{MayBecome}
+use Rattle.swd_port.specs.GivingUp.{PortAsksKept, PortGaveUp}
+use Rattle.swd_port.proofs.GivingUpLaws.{port_asks_split}
 use Rattle.swd_port.proofs.StatusLaws.{ctrl_stat_returned, port_identification_returned}
 use Rattle.swd_host.specs.Early.{ResumedCtrlStatChecked, ResumedOpeningLost, early_okay, early_wait, early_fault}
 use Rattle.swd_host.specs.Early.{early_none}
@@ -25,6 +29,7 @@ use Rattle.swd_host.proofs.EarlyFrames.{opening_comes_completed, opening_comes_s
 use Rattle.swd_host.proofs.EarlyFrames.{opening_comes_at_rest, opening_none_pending, opening_flag_met}
 use Rattle.swd_host.proofs.EarlyFrames.{opening_any_completed, opening_woken_completed, opening_job_completed}
 use Rattle.swd_host.proofs.EarlyFrames.{opening_job_framed, opening_abort_woken, opening_cleared_woken}
+use Rattle.swd_host.proofs.EarlyFrames.{opening_woken_less}
 use Rattle.swd_host.proofs.EarlyFrames.{opening_cleared_rests}
 
 -- what a phase was spared stays so while nothing more is disturbed
@@ -48,12 +53,17 @@ early_lost : (n : ℕ) (base : EngineBase) (start s a b t : Port) → PortComple
     → s.target.select ≡ port_select_zero → b.target.select ≡ a.target.select → n ≤ s.tally.disturbed
     → base.lost ≤ s.tally.lost → b.tally.disturbed ≡ a.tally.disturbed → b.tally.lost ≡ a.tally.lost + 1
     → ResumeComesFrom start b → ResumedOpeningLost n base start t
-early_lost n base start s a b t first last select same paid l d more comes = grind arith
+early_lost n base start s a b t first last select same paid l d more comes =
+    grind (arith, opening_comes_completed)
+
+-- a call before which no write is given up, as a call
+asks_of_kept : (q : Request) (v : ℕ) (s t : Port) → PortAsksKept s q v t → PortAsks s q v t
+asks_of_kept q v s t (a, b, mark, c, first, now, last) = (a, a, b, mark, c, first, inl refl, now, last)
 
 -- AN EXEMPT REQUEST
 exempt_early : (job : Job) (n : ℕ) (base : EngineBase) (stray : Bool) (start : Port) (v : ℕ) (s t : Port) (q : Request)
     (r : Register) → port_register s.target.select q ≡ r → is_exempt_register r ≡ true → r ≢ DrwRead
-    → ResumedAwake n stray start s → base.lost ≤ s.tally.lost → PortAsks s q v t
+    → ResumedAwake n stray start s → base.lost ≤ s.tally.lost → PortAsksKept s q v t
     → ((y z : Port) (flip : Option ℕ) → PortCompletes s y → PortPhaseSpared flip y z → PortAccepts r q.read flip y z
     → y.tally.disturbed ≤ z.tally.disturbed → PortCompletes z t → ResumedDuring job n stray start t)
     → ResumedOpeningSawAck job v n base stray start t
@@ -151,7 +161,7 @@ module _ (n : ℕ) (base : EngineBase) (stray : Bool) (start : Port) (v : ℕ) (
       ≡ port_register port_select_zero (engine_request_for job k)
   reached job e = ap (λ z. port_register z (engine_request_for job k)) e
 
-  ask_abort : ResumedAwake n stray start s → PortAsks s (engine_request_for (At WriteAbort) k) v t
+  ask_abort : ResumedAwake n stray start s → PortAsksKept s (engine_request_for (At WriteAbort) k) v t
       → ResumedOpeningSawAck (At WriteAbort) v n base stray start t
   ask_abort h asks =
       exempt_early (At WriteAbort) n base stray start v s t (engine_request_for (At WriteAbort) k) AbortWrite
@@ -160,7 +170,7 @@ module _ (n : ℕ) (base : EngineBase) (stray : Bool) (start : Port) (v : ℕ) (
       abort_awaits (At WriteAbort) n stray start s y z t flip h.live first sp more last h a)
 
   ask_clear : (owed : Flags) → ResumedFlagsOwed owed n stray start s
-      → PortAsks s (engine_request_for (Clear Select owed) k) v t
+      → PortAsksKept s (engine_request_for (Clear Select owed) k) v t
       → ResumedOpeningSawAck (Clear Select owed) v n base stray start t
   ask_clear owed h asks =
       exempt_early (Clear Select owed) n base stray start v s t (engine_request_for (Clear Select owed) k) AbortWrite
@@ -168,7 +178,7 @@ module _ (n : ℕ) (base : EngineBase) (stray : Bool) (start : Port) (v : ℕ) (
       (λ y z flip first sp a more last.
       abort_awaits (Clear Select owed) n stray start s y z t flip h.woken.live first sp more last h a)
 
-  ask_status : ResumedMetBusError n stray start s → PortAsks s (engine_request_for (Status Select) k) v t
+  ask_status : ResumedMetBusError n stray start s → PortAsksKept s (engine_request_for (Status Select) k) v t
       → ResumedOpeningSawAck (Status Select) v n base stray start t
   ask_status h asks =
       exempt_early (Status Select) n base stray start v s t (engine_request_for (Status Select) k) CtrlStatRead
@@ -179,7 +189,7 @@ module _ (n : ℕ) (base : EngineBase) (stray : Bool) (start : Port) (v : ℕ) (
         status_reads (Status Select) n stray start s y z t flip h.woken.live first sp more last h a,
       ))
 
-  ask_ctrl_stat : ResumedAbortWritten n stray start s → PortAsks s (engine_request_for (At CheckCtrlStat) k) v t
+  ask_ctrl_stat : ResumedAbortWritten n stray start s → PortAsksKept s (engine_request_for (At CheckCtrlStat) k) v t
       → ResumedOpeningSawAck (At CheckCtrlStat) v n base stray start t
   ask_ctrl_stat h asks =
       let w : ResumedAwake n stray start s = opening_abort_woken n stray start s h in
@@ -192,7 +202,7 @@ module _ (n : ℕ) (base : EngineBase) (stray : Bool) (start : Port) (v : ℕ) (
       ))
 
   ask_check : (owed : Flags) → ResumedFlagsCleared owed n stray start s
-      → PortAsks s (engine_request_for (Check Select owed) k) v t
+      → PortAsksKept s (engine_request_for (Check Select owed) k) v t
       → ResumedOpeningSawAck (Check Select owed) v n base stray start t
   ask_check owed h asks =
       let w : ResumedAwake n stray start s = opening_cleared_woken owed n stray start s h in
@@ -226,7 +236,7 @@ module _ (n : ℕ) (base : EngineBase) (stray : Bool) (start : Port) (v : ℕ) (
         live = a.live;
       })
 
-  ask_identify : ResumedAfterReset n stray start s → PortAsks s (engine_request_for (At Identify) k) v t
+  ask_identify : ResumedAfterReset n stray start s → PortAsksKept s (engine_request_for (At Identify) k) v t
       → ResumedOpeningSawAck (At Identify) v n base stray start t
   ask_identify h asks =
       let q : Request = engine_request_for (At Identify) k in
@@ -285,12 +295,12 @@ module _ (n : ℕ) (base : EngineBase) (stray : Bool) (start : Port) (v : ℕ) (
             (λ d. settled (n + 1) (omega (arith, there.woken.any.paid, d)));
       }
 
-  ask_select : ResumedCtrlStatChecked n stray start s → PortAsks s (engine_request_for (At Select) k) v t
+  ask_select : ResumedCtrlStatChecked n stray start s → PortAsksKept s (engine_request_for (At Select) k) v t
       → ResumedOpeningSawAck (At Select) v n base stray start t
   ask_select h asks =
       let q : Request = engine_request_for (At Select) k in
       let (y, z, first, came, last) = port_free_request SelectWrite q v s t (reached (At Select) h.woken.any.select)
-      refl h.woken.live h.flag (λ e. absurd (cc)) asks in
+      refl h.woken.live h.flag (λ e. absurd (cc)) (asks_of_kept q v s t asks) in
       let there : ResumedCtrlStatChecked n stray start y =
       opening_job_completed (At Select) n stray start s y first h in
       let comes : ResumeComesFrom start y = there.woken.any.comes in
@@ -332,14 +342,98 @@ module _ (n : ℕ) (base : EngineBase) (stray : Bool) (start : Port) (v : ℕ) (
         ]
       ]
 
-  -- EVERY REQUEST
-  pub ask_early : (job : Job) → ResumedBefore job n stray start s → PortAsks s (engine_request_for job k) v t
+  -- every request, before which no write is given up
+  ask_early_kept : (job : Job) → ResumedBefore job n stray start s → PortAsksKept s (engine_request_for job k) v t
       → ResumedOpeningSawAck job v n base stray start t
-  ask_early (At Identify) h asks = ask_identify h asks
-  ask_early (At WriteAbort) h asks = ask_abort h asks
-  ask_early (At CheckCtrlStat) h asks = ask_ctrl_stat h asks
-  ask_early (At Select) h asks = ask_select h asks
-  ask_early (Status Select) h asks = ask_status h asks
-  ask_early (Clear Select owed) h asks = ask_clear owed h asks
-  ask_early (Check Select owed) h asks = ask_check owed h asks
-  ask_early _ h asks = absurd h
+  ask_early_kept (At Identify) h asks = ask_identify h asks
+  ask_early_kept (At WriteAbort) h asks = ask_abort h asks
+  ask_early_kept (At CheckCtrlStat) h asks = ask_ctrl_stat h asks
+  ask_early_kept (At Select) h asks = ask_select h asks
+  ask_early_kept (Status Select) h asks = ask_status h asks
+  ask_early_kept (Clear Select owed) h asks = ask_clear owed h asks
+  ask_early_kept (Check Select owed) h asks = ask_check owed h asks
+  ask_early_kept _ h asks = absurd h
+
+-- A WRITE THAT IS GIVEN UP
+-- the bus stays as it is, which it might have become at the start
+comes_given : (q : Request) (start s d : Port) → PortGaveUp q s d → ResumeComesFrom start s → ResumeComesFrom start d
+unfolding MayBecome
+comes_given q start s d g h =
+    let none : d.target.pending ≡ None = ap (λ p. p.target.pending) g.after in
+    let same : d.target.memory ≡ s.target.memory = ap (λ p. p.target.memory) g.after in
+    record {
+      comes = λ m may. h.comes m (inl (g.write, port_may_become_of_none.only m d none may ∙ same));
+      rests = λ e. none;
+    }
+
+-- it counts as a disturbance, which its event is paid with
+any_given : (q : Request) (n : ℕ) (stray : Bool) (start s d : Port) → PortGaveUp q s d
+    → ResumedOpeningAnywhere n stray start s → ResumedOpeningAnywhere (n + 1) stray start d
+any_given q n stray start s d g h =
+    let count : d.tally.disturbed ≡ s.tally.disturbed + 1 = ap (λ p. p.tally.disturbed) g.after in
+    record {
+      select = ap (λ p. p.target.select) g.after ∙ h.select;
+      odd = ap (λ p. p.target.identification % 2) g.after ∙ h.odd;
+      comes = comes_given q start s d g h.comes;
+      awaited = inr (ap (λ p. p.target.pending) g.after);
+      paid = omega (arith, count, h.paid);
+    }
+
+less_given : (n : ℕ) (stray : Bool) (start s : Port) → ResumedOpeningAnywhere (n + 1) stray start s
+    → ResumedOpeningAnywhere n stray start s
+less_given n stray start s h = record {
+  select = h.select;
+  odd = h.odd;
+  comes = h.comes;
+  awaited = h.awaited;
+  paid = omega (arith, h.paid);
+}
+
+woken_given : (q : Request) (n : ℕ) (stray : Bool) (start s d : Port) → PortGaveUp q s d
+    → ResumedAwake n stray start s → ResumedAwake (n + 1) stray start d
+woken_given q n stray start s d g h = record {
+  any = any_given q n stray start s d g h.any;
+  live = ap (λ p. p.target.reset) g.after ∙ h.live;
+}
+
+-- a write that is given up is pending
+not_at_rest : (q : Request) (s d : Port) → PortGaveUp q s d → s.target.pending ≡ None → ⊥
+not_at_rest q s d g none = let write : is_pending_write s.target.pending ≡ true = g.write in grind arith
+
+-- what is known before each exempt request stays known where the write is given up before it
+before_given : (job : Job) (k : Task) (n : ℕ) (stray : Bool) (start s d : Port)
+    → PortGaveUp (engine_request_for job k) s d → ResumedBefore job n stray start s → ResumedBefore job n stray start d
+before_given (At Identify) k n stray start s d g h = record {
+  any = less_given n stray start d (any_given (engine_request_for (At Identify) k) n stray start s d g h.any);
+  reset = λ e. h.reset (sym (ap (λ p. p.target.reset) g.after) ∙ e);
+}
+before_given (At WriteAbort) k n stray start s d g h =
+    opening_woken_less n stray start d (woken_given (engine_request_for (At WriteAbort) k) n stray start s d g h)
+before_given (At CheckCtrlStat) k n stray start s d g h =
+    hurt (woken_given (engine_request_for (At CheckCtrlStat) k) n stray start s d g
+    (opening_abort_woken n stray start s h)) (ap (λ p. p.target.write_error) g.after)
+before_given (At Select) k n stray start s d g h =
+    absurd (let e : is_exempt_register (port_register s.target.select (engine_request_for (At Select) k)) ≡ true =
+    g.exempt in let f : s.target.select ≡ port_select_zero = h.woken.any.select in
+    let w : is_exempt_register (port_register port_select_zero (engine_request_for (At Select) k)) ≡ true =
+    ap (λ z. is_exempt_register (port_register z (engine_request_for (At Select) k))) (sym f) ∙ e in cc)
+before_given (Status Select) k n stray start s d g h =
+    absurd (not_at_rest (engine_request_for (Status Select) k) s d g h.pending)
+before_given (Clear Select owed) k n stray start s d g h =
+    absurd (not_at_rest (engine_request_for (Clear Select owed) k) s d g h.pending)
+before_given (Check Select owed) k n stray start s d g h =
+    absurd (not_at_rest (engine_request_for (Check Select owed) k) s d g
+    (opening_cleared_rests owed n stray start s h))
+before_given _ k n stray start s d g h = absurd h
+
+-- EVERY REQUEST
+pub ask_early : (n : ℕ) (base : EngineBase) (stray : Bool) (start : Port) (v : ℕ) (s t : Port) (k : Task)
+    → base.lost ≤ s.tally.lost → (job : Job) → ResumedBefore job n stray start s
+    → PortAsks s (engine_request_for job k) v t → ResumedOpeningSawAck job v n base stray start t
+ask_early n base stray start v s t k l job h asks =
+    elim (port_asks_split (engine_request_for job k) v s t asks) [
+      | inl kept ↦ ask_early_kept n base stray start v s t k l job h kept
+      | inr gave ↦ ask_early_kept n base stray start v gave.0 t k
+          (subst (λ p. base.lost ≤ p.tally.lost) (sym gave.1.after) l) job
+          (before_given job k n stray start s gave.0 gave.1 h) gave.2
+    ]

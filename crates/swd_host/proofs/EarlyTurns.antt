@@ -1,9 +1,9 @@
 -- Going on after a lost acknowledgement: from what each call keeps early to what engine and port keep.
-use Rattle.swd_host.proofs.Words.{◌≡◌, ◌+◌, ◌≤◌, ℕ, sym, subst, arith, Bus, Port, MayBecome, SelectWrite}
+use Rattle.swd_host.proofs.Words.{◌≡◌, ◌∙◌, ◌+◌, ◌≤◌, ℕ, sym, ap, subst, arith, Bus, Port, MayBecome, SelectWrite}
 use Rattle.swd_host.proofs.Words.{Select, Job, At, Data, Doing, Engine, EngineHand, EngineBase, EnginePlaceIsSure}
 use Rattle.swd_host.proofs.Words.{EngineWrites, whole, changed, EngineDuring, EngineStateTracks, TracksEngine}
 use Rattle.swd_host.proofs.Words.{EngineFollowsPort, hand_of_engine, IsTask, ResumedSelectSettled, ResumedOpeningIsOver}
-use Rattle.swd_host.proofs.Words.{EngineIsInResumedOpening, EngineResumes, early, over}
+use Rattle.swd_host.proofs.Words.{EngineIsInResumedOpening, EngineResumes, early, over, ResumedOpening}
 
 -- an engine that goes on, after a call
 pub engine_resumes_by : (e f : Engine) (s t : Port) → f.task ≡ e.task → s.tally.lost ≤ t.tally.lost
@@ -55,4 +55,7 @@ pub opening_select_chooses : (base : EngineBase) (start : Port) (e : Engine) (s 
     → e.state ≡ Doing job Data
     → job ≡ At Select → IsTask e.task → base.lost ≤ s.tally.lost → EngineIsInResumedOpening base start e s
     → OpeningChosen base start e s
-opening_select_chooses base start e s job is at ok few h = grind (arith, over_there)
+opening_select_chooses base start e s job is at ok few h =
+    let there : e.state ≡ Doing (At Select) Data = is ∙ ap (λ j. Doing j Data) at in
+    over_there base start e s there ok few
+    (subst (λ x. ResumedOpening x (base.disturbed + e.events) e.tries base e.stray start s) there h)

@@ -15,5 +15,6 @@ pub use Rattle.swd_host.proofs.Runs.{opening_stops, list_fits}
 pub use Rattle.swd_host.proofs.Resumed.{resume_stops, resume_performs}
 pub use Rattle.swd_host.proofs.SendingTurns.{opening_counts, opening_stop_sent}
 pub use Rattle.swd_host.proofs.SendingRuns.{EngineSentSoFar, engine_sent_answered, engine_sent_stopped, engine_sent_all}
+pub use Rattle.swd_host.proofs.SendingRuns.{list_confirms}
 pub use Rattle.swd_host.proofs.SendingRuns.{engine_report_matches, engine_requests_small}
-pub use Rattle.swd_host.proofs.Listed.{list_report_closes, list_report_sent, list_runs_within}
+pub use Rattle.swd_host.proofs.Listed.{list_report_closes, list_report_sent, list_runs_within, list_sent_confirms}

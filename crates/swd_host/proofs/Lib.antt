@@ -43,6 +43,7 @@ mod Making
 mod SendingStages
 mod Sending
 mod SendingWords
+mod Confirming
 mod SendingTurns
 mod SendingRuns
 mod Listed

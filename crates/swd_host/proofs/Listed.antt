@@ -17,7 +17,9 @@ use Rattle.swd_host.specs.Stages.{EngineEndsWithCalls, EngineListCalls}
 use Rattle.swd_host.specs.Standing.{EngineIsOpened}
 use Rattle.swd_host.proofs.Ends.{stops_only}
 use Rattle.swd_host.proofs.Fitting.{fits_from_fewer}
-use Rattle.swd_host.proofs.SendingRuns.{engine_report_matches}
+use Rattle.swd_host.proofs.Confirming.{settles_any}
+use Rattle.swd_host.proofs.SendingRuns.{engine_report_matches, list_confirms}
+use Rattle.swd_host.specs.Confirming.{HostConfirms}
 
 -- the answers that came after earlier ones
 pub added_are : (before after answers : List Answer) → after ≡ before ++ answers → drop (length before) after ≡ answers
@@ -69,6 +71,7 @@ module _ (kind : Bursts) (tries : ℕ) (list : List Access) (o f : Engine) (befo
     requests = opened.requests;
     makes = tt;
     goes_on = refl;
+    settles = settles_any o.bursts [] (λ other. record { each = tt; none = refl });
     rests = subst (λ x. EngineCallsAtRestIn (engine_is_ahead_in x o.task) list [] o.ahead o.task [])
         (sym opened.has.at)
         (subst (λ a. EngineAccessEnded list [] a o.task []) (sym opened.ahead)
@@ -95,6 +98,11 @@ module _ (kind : Bursts) (tries : ℕ) (list : List Access) (o f : Engine) (befo
       (is ∙ ap (λ l. engine_report l f end) (added_are before after h.answers h.added))
       (list_requests_small due short small closes)
       (subst (EngineEndsWithCalls list h.answers f end) (append-nil made) (h.ends [] none_counted))
+
+  -- what is confirmed before the next write to an access port
+  pub list_sent_confirms : (made : List Call) → EngineListCalls list o f before after end made → HostConfirms kind made
+  list_sent_confirms made h = subst (HostConfirms kind) (append-nil made)
+      (list_confirms list kind o f before after end [] made opened.bursts none_counted h)
 
   -- OVER AN OPEN TARGET
   list_target : (s : Port) → HostIsOpen s → EngineTargetIsOpen s.target.memory o s

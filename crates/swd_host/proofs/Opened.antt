@@ -1,6 +1,7 @@
 -- The opening over any target whose SELECT is 0: from its beginning to how it ends, over one of the memories that may
 -- have come of the start.
-use Rattle.swd_host.proofs.Words.{◌≡◌, ◌≢◌, ◌+◌, ◌%◌, ◌<◌, ◌≤◌, ℕ, Bool, true, sym, subst, arith, ◌⊎◌, None, ◌∙◌}
+use Rattle.swd_host.proofs.Words.{◌≡◌, ◌≢◌, ◌+◌, ◌%◌, ◌<◌, ◌≤◌, ℕ, Bool, true, sym, subst, inl, inr, arith, ◌⊎◌, None}
+use Rattle.swd_host.proofs.Words.{◌∙◌}
 use Rattle.swd_host.proofs.Words.{Bus, Port, Choice, MayBecome, port_completed, End, All, Lost, Opened, Stopped}
 use Rattle.swd_host.proofs.Words.{Resting, Engine, Unsent, Bursts, EngineHand, EngineBase, EngineMemoryWithin}
 use Rattle.swd_host.proofs.Words.{EngineAllowsMemory, EngineIsReady, hand_of_engine, EngineDueAt, EngineDueFits}
@@ -62,12 +63,14 @@ module _ (m : Bus) (f : Engine) (start t : Port) (none : f.begun ≡ 0) (may : M
   within_later c = subst (MayBecome start) (sym (port_becomes_completed w.later c t.target w.becomes
       ∙ host_none_in_flight f.begun (hand_of_engine f m) w.later none w.ends)) may
 
-  within_comes : (now : Bus) → MayBecome t now → MayBecome start now
-  within_comes now h = subst (MayBecome start) (sym h.2) (within_later h.0)
-
   within_now : MayBecome start t.target.memory
   within_now = subst (MayBecome start) (sym
       (host_none_in_flight f.begun (hand_of_engine f m) t.target.memory none w.now)) may
+
+  within_comes : (now : Bus) → MayBecome t now → MayBecome start now
+  unfolding MayBecome
+  within_comes now (inl given) = subst (MayBecome start) (sym given.1) within_now
+  within_comes now (inr h) = subst (MayBecome start) (sym h.2) (within_later h.0)
 
 -- an opening stops for a lost ACK or too many disturbances; each memory that may follow might follow from the start
 pub opening_stop_memory : (base : EngineBase) (start : Port) (f : Engine) (end : End) (t : Port)

@@ -146,6 +146,11 @@ module _ (kind : Bursts) (list : List Access) (tries : ℕ) (earlier : HostRepor
         (fits_from_fewer f.requests 9 (bursts_limit f.bursts) rest opened.memory (engine_report does.answers last end)
         done.settled (opened_sent (resumed_bursts kind) true tries e f s t small new goes at) done.later)
 
+    so_far : Fits 1 rest opened.memory (engine_report does.answers last end) u.target.memory
+    so_far = subst (λ n. Fits n rest opened.memory (engine_report does.answers last end) u.target.memory) one
+        (fits_from_fewer f.requests 9 (bursts_limit f.bursts) rest opened.memory (engine_report does.answers last end)
+        u.target.memory (opened_sent (resumed_bursts kind) true tries e f s t small new goes at) done.now)
+
     left_opened : engine_left_in (resumed_bursts kind) f.state ≡ 1
     left_opened = ap (engine_left_in (resumed_bursts kind)) at
 
@@ -157,7 +162,12 @@ module _ (kind : Bursts) (list : List Access) (tries : ℕ) (earlier : HostRepor
 
     done_fits : (now : Bus) → MayBecome u now
         → Fits 1 rest opened.memory (resume_own_report earlier (resume_report told earlier) told.begun) now
-    done_fits now (c, i, is) =
+    unfolding MayBecome
+    done_fits now (inl given) =
+        subst (λ x. Fits 1 rest opened.memory (resume_own_report earlier (resume_report told earlier) told.begun) x)
+        (sym given.1)
+        (subst (λ xs. Fits 1 rest opened.memory (engine_report xs last end) u.target.memory) (sym done_added) so_far)
+    done_fits now (inr (c, i, is)) =
         subst (λ x. Fits 1 rest opened.memory (resume_own_report earlier (resume_report told earlier) told.begun) x)
         (sym (is ∙ done.becomes c))
         (subst (λ xs. Fits 1 rest opened.memory (engine_report xs last end) done.settled) (sym done_added) later)

@@ -52,7 +52,7 @@ module _ (kind : Bursts) (list : List Access) (tries : ℕ) (e f : Engine) (answ
 
   opening_fits : (now : Bus) (end : End) → end ≢ All → f.state ≡ Resting (Stopped end) → MayBecome s now
       → Fits (bursts_limit kind) list m (engine_report answers f end) now
-  opening_fits now end never at may = grind arith
+  opening_fits now end never at may = grind (arith, only)
 
   -- the theorem of a run whose opening stopped, so that it did no access
   pub opening_stops : (end : End) → f.state ≡ Resting (Stopped end)

@@ -32,6 +32,11 @@ use Rattle.swd_host.proofs.Starts.{block_task_is_burst, single_task_not_ahead, s
 use Rattle.swd_host.proofs.Alone.{burst_next_access, last_task_not_burst}
 use Rattle.swd_host.proofs.SendingStages.{IsTaskInList}
 use Rattle.swd_host.proofs.SendingWords.{EngineMakes, engine_knows_awaits, engine_turns_make}
+use Rattle.swd_host.specs.declared.task.Bursts.TheVariants.{Writes}
+use Rattle.swd_host.specs.Confirming.{HostSettled, HostConfirms}
+use Rattle.swd_host.proofs.Words.{is_burst_write}
+use Rattle.swd_host.proofs.Confirming.{EngineConfirms, engine_turns_confirm, confirms_any, settles_any, settled_of}
+use Rattle.swd_host.proofs.Confirming.{answered_sure, turns_bursts, never_burst}
 use Rattle.swd_host.proofs.SendingTurns.{answered_rests, start_knows, engine_turns_counted, turns_know}
 
 none_follows : (kind : Bursts) (a : Access) → task_is_block (task_for kind a None) ≡ true → ⊥
@@ -94,6 +99,26 @@ module _ (i : ℕ) (list : List Access) (o e g f : Engine) (answers : List Answe
         }) turns).1,
       )
 
+  -- no DRW write is unconfirmed where a write to an access port is asked, but in bursts of writes
+  confirmed : (past calls : List Call) → EngineCountsCalls list answers e past → EngineTurns g calls f
+      → e.bursts ≢ Writes → EngineConfirms f (calls ++ past)
+  confirmed past calls h turns apart =
+      let settled : HostSettled past = settled_of e.bursts past apart h.settles in
+      let knows : EngineKnowsCalls list answers g past =
+      start_knows list answers (get_or list i d) following e g past starts
+      (burst_next_access i list o e answers t d stays) here h.rests in
+      (engine_turns_confirm g f past calls (ap is_burst_write starts.task
+      ∙ never_burst e.bursts (get_or list i d) (if engine_next_failed e then None else following) apart)
+      (λ early x went. (engine_turns_make list g x past early (λ none. listed) (record {
+        awaits = engine_knows_awaits list answers g.state g.task g.begun g.ahead past knows;
+        makes = h.makes;
+        goes_on = h.goes_on;
+      }) went).1.awaits)
+      (record { each = settled.each; sure = λ none. settled.none }) turns).1
+
+  same_bursts : (calls : List Call) → EngineTurns g calls f → f.bursts ≡ e.bursts
+  same_bursts calls turns = turns_bursts g f calls turns ∙ starts.bursts
+
   answered_counts : (answer : Answer) → engine_outcome f ≡ Some (Answered answer) → (past calls : List Call)
       → EngineCountsCalls list answers e past → EngineTurns g calls f
       → EngineCountsCalls list (answers ++ answer ∷ []) f (calls ++ past)
@@ -104,6 +129,12 @@ module _ (i : ℕ) (list : List Access) (o e g f : Engine) (answers : List Answe
         rests = answered_rests list answers f.state f.task f.begun f.ahead (calls ++ past) answer finished knows.1;
         makes = knows.2.makes;
         goes_on = knows.2.goes_on;
+        settles = settles_any f.bursts (calls ++ past) (λ apart.
+            let c : EngineConfirms f (calls ++ past) =
+            confirmed past calls h turns (λ w. apart (same_bursts calls turns ∙ w)) in record {
+              each = c.each;
+              none = c.sure (answered_sure f.state f.task answer finished);
+            });
       }
 
   stopped_most : (end : End) → end ≢ All → (b : ℕ) → engine_most_begun_at end b ≡ b
@@ -123,6 +154,8 @@ module _ (i : ℕ) (list : List Access) (o e g f : Engine) (answers : List Answe
             (subst (λ x. EngineKnowsAt list answers x f.task f.begun f.ahead (calls ++ past)) at knows.1);
         makes = knows.2.makes;
         idles = λ whole. absurd (never whole);
+        confirms = confirms_any f.bursts (calls ++ past)
+            (λ apart. (confirmed past calls h turns (λ w. apart (same_bursts calls turns ∙ w))).each);
       }
 
 -- ONE ACCESS AFTER THE OTHER
@@ -155,6 +188,7 @@ engine_sent_stopped i list o e f answers t d following stays low next end at nev
     (g, starts, turns) = record {
       answers = answers;
       added = added;
+      bursts = turns_bursts g f late turns ∙ starts.bursts ∙ stays.bursts;
       ends = λ past p. subst (λ l. EngineEndsWithCalls list answers f end l) (sym (append_assoc late early past))
           (stopped_ends i list o e g f answers t d following stays low starts next end at never (early ++ past) late
           (h past p) turns);
@@ -187,6 +221,7 @@ engine_sent_all i list o e answers t stays all before after added early late h i
     record {
       answers = answers;
       added = added;
+      bursts = stays.bursts;
       ends = λ past p. subst (λ l. EngineEndsWithCalls list answers e All ((l ++ early) ++ past)) (sym is)
           (let counts : EngineCountsCalls list answers e (early ++ past) = h past p in
           record {
@@ -195,6 +230,8 @@ engine_sent_all i list o e answers t stays all before after added early late h i
                 (single_task_not_ahead e.state e.task plain) counts.rests;
             makes = (inr (counts.goes_on, refl), counts.makes);
             idles = λ whole. refl;
+            confirms = confirms_any e.bursts (host_idle_call ∷ (early ++ past))
+                (λ apart. (λ writes. absurd (cc), (settled_of e.bursts (early ++ past) apart counts.settles).each));
           });
     }
 
@@ -260,6 +297,13 @@ engine_requests_small spare kind list tries told due few short small h =
     let product : n * (6 + event_requests kind * tries) ≤ 65536 * (6 + event_requests kind * tries) =
     mul-le-mul_right (6 + event_requests kind * tries) most in
     omega (arith, h.spends, event_requests_most kind tries)
+
+-- what is confirmed before the next write, by the kind of the engine that the list began with
+pub list_confirms : (list : List Access) (kind : Bursts) (o f : Engine) (before after : List Answer) (end : End)
+    (past made : List Call) → o.bursts ≡ kind → EngineCountsCalls list [] o past
+    → EngineListCalls list o f before after end made → HostConfirms kind (made ++ past)
+list_confirms list kind o f before after end past made same counts h =
+    subst (λ b. HostConfirms b (made ++ past)) (h.bursts ∙ same) (h.ends past counts).confirms
 
 -- GOING ON
 most_after : (end : End) (b k : ℕ) → engine_most_begun_at end b ≤ (if host_end_is_all end then 0 else max b k)

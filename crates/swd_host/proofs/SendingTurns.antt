@@ -38,6 +38,8 @@ use Rattle.swd_host.proofs.SendingStages.{IsTaskInList, engine_none_settled}
 use Rattle.swd_host.proofs.Sending.{ask_knows, waited_knows, faulted_knows, given_knows, taken_knows, knows_as}
 use Rattle.swd_host.proofs.Sending.{sent_as}
 use Rattle.swd_host.proofs.SendingWords.{opening_turns_make, engine_turns_never}
+use Rattle.swd_host.proofs.Confirming.{EngineConfirms, engine_may_await, opening_turns_confirm, confirms_any}
+use Rattle.swd_host.proofs.Confirming.{settles_any}
 
 -- the job of a state of an access is one of an access
 state_job : (x : State) (job : Job) (phase : Phase) → x ≡ Doing job phase → engine_state_is_of false x ≡ true
@@ -232,6 +234,11 @@ opening_counts list kind again tries e f calls new turns at =
       requests = engine_turns_counted e f [] calls new.requests turns ∙ ap engine_counted nil;
       makes = (opening_turns_make list kind again tries e f calls new turns).makes;
       goes_on = (opening_turns_make list kind again tries e f calls new turns).goes_on;
+      settles = settles_any f.bursts calls (λ other. let c : EngineConfirms f calls =
+          opening_turns_confirm list kind again tries e f calls new turns in record {
+            each = c.each;
+            none = c.sure (ap engine_may_await at);
+          });
       rests = subst (λ x. EngineCallsAtRestIn (engine_is_ahead_in x f.task) list [] f.ahead f.task calls) (sym at)
           (subst (λ a. EngineAccessEnded list [] a f.task calls) (sym (opens.ahead (ap engine_is_rested at)))
           (record {
@@ -263,6 +270,8 @@ opening_stop_sent list kind again tries e f end calls new turns at =
           engine_turns_never e f calls (ap engine_stops_at_all new.leads) turns in
           let both : true ≡ false = sym (ap (λ x. engine_stops_at_all (Resting (Stopped x))) whole)
           ∙ (ap engine_stops_at_all (sym at) ∙ never) in cc);
+      confirms = confirms_any f.bursts calls
+          (λ other. (opening_turns_confirm list kind again tries e f calls new turns).each);
     }
 
 -- AN ACCESS FROM ITS START

@@ -21,6 +21,16 @@ use Rattle.swd_host.specs.Replies.{EngineSentCue, EngineTookReply, EngineTookDat
 use Rattle.swd_host.specs.Early.{ResumedOpeningAfterCue}
 use Rattle.swd_host.proofs.Working.{IsEngineAsking, engine_at_ask, engine_one_more_least, engine_one_more_exact}
 use Rattle.swd_host.proofs.Working.{engine_ask_works, engine_moves_works}
+use Rattle.swd_host.proofs.Words.{◌≢◌, ◌%◌, Port, At, Status, Select, ResumedBefore}
+use Rattle.swd_host.specs.declared.engine.State.TheVariants.{Leading}
+use Rattle.swd_host.specs.declared.engine.Phase.TheVariants.{Waited, Faulted}
+use Rattle.swd_host.proofs.Words.{ResumedOpeningAnywhere, ResumedAfterReset}
+use Rattle.swd_port.specs.declared.state.Reset.TheVariants.{Fresh}
+use Rattle.swd_port.proofs.MovingLaws.{port_turnaround_passed, port_line_reset}
+use Rattle.swd_host.specs.Engines.{engine_lead_cue}
+use Rattle.swd_host.proofs.Frames.{host_frame_passed, host_flags_passed}
+use Rattle.swd_host.proofs.EarlyFrames.{opening_comes_same, opening_any_completed, opening_job_completed}
+use Rattle.swd_host.proofs.EarlyFrames.{opening_job_framed}
 use Rattle.swd_host.proofs.EarlyAsks.{ask_early}
 use Rattle.swd_host.proofs.EarlyMoves.{read_early, given_early}
 use Rattle.swd_host.proofs.EarlyTurns.{engine_resumes_by, engine_stays_early, opening_select_chooses}
@@ -231,10 +241,30 @@ passed_left : (n tries : ℕ) (base : EngineBase) (b : ℕ) (k : EngineHand) (x 
     → EngineHoldsAfterCue x n b k t
 passed_left n tries base b k x stray task s t e passes h = grind (arith, host_pass_after_fault, host_pass_after_wait)
 
+-- a turnaround keeps what is known before each request of a resumed opening
+passed_before : (job : Job) (n : ℕ) (stray : Bool) (start s t : Port) → PortPasses s t
+    → ResumedBefore job n stray start s → ResumedBefore job n stray start t
+passed_before job n stray start s t passes h =
+    let (a, first, passed, line) = port_turnaround_passed s t passes in
+    opening_job_framed job n n stray start a t (host_frame_passed a t passed) (host_flags_passed a t passed)
+    (omega (arith, ap (λ i. i.disturbed) passed.tally)) (opening_job_completed job n stray start s a first h)
+
+no_pass_at_data : (job : Job) (stray : Bool) (task : Task) → engine_cue_at (Doing job Data) stray task ≢ Some CuePass
+no_pass_at_data job stray task e = grind arith
+
 passed_early : (n tries : ℕ) (base : EngineBase) (x : State) (stray : Bool) (task : Task) (start s t : Port)
     → engine_cue_at x stray task ≡ Some CuePass → PortPasses s t → ResumedOpening x n tries base stray start s
     → ResumedOpeningAfterCue x n stray start t
-passed_early n tries base x stray task start s t e passes h = grind arith
+passed_early n tries base (Doing (At Select) Waited) stray task start s t e passes h =
+    passed_before (At Select) (n + 1) stray start s t passes h
+passed_early n tries base (Doing (At Select) Faulted) stray task start s t e passes h =
+    passed_before (Status Select) n stray start s t passes h
+passed_early n tries base Leading stray task start s t e passes h = absurd (cc)
+passed_early n tries base (Resting outcome) stray task start s t e passes h = absurd (cc)
+passed_early n tries base (Doing job Ask) stray task start s t e passes h = absurd (cc)
+passed_early n tries base (Doing job Data) stray task start s t e passes h = absurd (no_pass_at_data job stray task e)
+passed_early n tries base (Doing _ Waited) stray task start s t e passes h = absurd h
+passed_early n tries base (Doing _ Faulted) stray task start s t e passes h = absurd h
 
 -- the turnaround after WAIT or FAULT, as a step of the model: what the engine and the port keep over it
 pub engine_pass_goes : (e f : Engine) (on : engine_is_resting e ≡ false) (s t : Port) → engine_cue e ≡ Some CuePass
@@ -258,11 +288,45 @@ led_left : (n tries : ℕ) (base : EngineBase) (b : ℕ) (k : EngineHand) (x : S
     → EngineStateTracks x n tries base b k s → EngineHoldsAfterCue x n b k t
 led_left n tries base b k x stray task ones undriven low switch s t e leads h = grind arith
 
+-- a line reset keeps what is known of a target in any state
+led_anywhere : (n : ℕ) (stray : Bool) (start : Port) (ones : ℕ) (s t : Port) → ones ≢ 0 → PortLeads s ones t
+    → ResumedOpeningAnywhere n stray start s → ResumedAfterReset n stray start t
+led_anywhere n stray start ones s t some leads h =
+    let (a, first, reset) = port_line_reset ones s t some leads in
+    let there : ResumedOpeningAnywhere n stray start a = opening_any_completed n stray start s a first h in
+    let pending : t.target.pending ≡ a.target.pending = ap (λ i. i.pending) reset.target in
+    record {
+      any = record {
+        select = ap (λ i. i.select) reset.target ∙ there.select;
+        odd = ap (λ i. i.identification % 2) reset.target ∙ there.odd;
+        comes = opening_comes_same start a t pending (ap (λ i. i.tar) reset.target) (ap (λ i. i.memory) reset.target)
+            there.comes;
+        awaited = elim there.awaited [ inl g ↦ inl g | inr p ↦ inr (pending ∙ p) ];
+        paid = omega (arith, there.paid, ap (λ i. i.disturbed) reset.tally);
+      };
+      reset = λ e. absurd (let f : t.target.reset ≡ Fresh = ap (λ i. i.reset) reset.target in cc);
+    }
+
+some_ones : (stray : Bool) (ones undriven : ℕ) (switch : Bool) (low : ℕ)
+    → Some (engine_lead_cue stray) ≡ Some (Lead ones undriven switch low) → ones ≢ 0
+some_ones stray ones undriven switch low e = grind arith
+
+no_lead_at_data : (job : Job) (stray : Bool) (task : Task) (ones undriven low : ℕ) (switch : Bool)
+    → engine_cue_at (Doing job Data) stray task ≢ Some (Lead ones undriven switch low)
+no_lead_at_data job stray task ones undriven low switch e = grind arith
+
 led_first : (n tries : ℕ) (base : EngineBase) (x : State) (stray : Bool) (task : Task) (ones undriven low : ℕ)
     (switch : Bool)
     (start s t : Port) → engine_cue_at x stray task ≡ Some (Lead ones undriven switch low) → PortLeads s ones t
     → ResumedOpening x n tries base stray start s → ResumedOpeningAfterCue x n stray start t
-led_first n tries base x stray task ones undriven low switch start s t e leads h = grind arith
+led_first n tries base Leading stray task ones undriven low switch start s t e leads h =
+    led_anywhere n stray start ones s t (some_ones stray ones undriven switch low e) leads h
+led_first n tries base (Doing job Ask) stray task ones undriven low switch start s t e leads h = absurd (cc)
+led_first n tries base (Doing job Data) stray task ones undriven low switch start s t e leads h =
+    absurd (no_lead_at_data job stray task ones undriven low switch e)
+led_first n tries base (Doing job Waited) stray task ones undriven low switch start s t e leads h = absurd (cc)
+led_first n tries base (Doing job Faulted) stray task ones undriven low switch start s t e leads h = absurd (cc)
+led_first n tries base (Resting outcome) stray task ones undriven low switch start s t e leads h = absurd (cc)
 
 -- the line reset of the opening, as a step of the model: what the engine and the port keep over it
 pub engine_lead_goes : (e f : Engine) (on : engine_is_resting e ≡ false) (s t : Port) (ones undriven low : ℕ)

@@ -86,7 +86,7 @@ pub use Rattle.swd_port.specs.Asking.{PortAsks, port_has_power, is_port_posted, 
 pub use Rattle.swd_port.specs.Asking.{ctrl_stat_word_in}
 pub use Rattle.swd_port.specs.Choices.{Choice}
 pub use Rattle.swd_port.specs.Completion.{port_completed, PortCompletes}
-pub use Rattle.swd_port.specs.Becoming.{MayBecome}
+unfoldable pub use Rattle.swd_port.specs.Becoming.{MayBecome}
 pub use Rattle.swd_port.specs.Laws.WordsRead.{PortAbortClears, PortOnLine}
 pub use Rattle.swd_port.specs.Leading.{PortLeads}
 pub use Rattle.swd_port.specs.Moves.{PortWritten, PortPassed, PortWriteSpoiled}

@@ -5,6 +5,7 @@ pub mod Bursts
 pub mod Calls
 pub mod Chains
 pub mod Coming
+pub mod Confirming
 pub mod Early
 pub mod Engines
 pub mod Events

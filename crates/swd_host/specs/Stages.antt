@@ -25,6 +25,7 @@ use Rattle.swd_host.specs.Engines.{engine_begun, engine_is_ahead, engine_is_ahea
 use Rattle.swd_host.specs.Requests.{engine_job_starts, engine_register_for}
 use Rattle.swd_host.specs.Sent.{HostSent, HostAwaitsNone, HostSince, host_awaits_drw, host_okay}
 use Rattle.swd_host.specs.Sent.{HostMakes, host_idles}
+use Rattle.swd_host.specs.Confirming.{HostConfirms, HostSettles}
 use Rattle.swd_host.specs.Sent.{Quiet, Failed as Fails}
 use Rattle.swd_host.specs.Tasks.{task_is_block, task_is_read}
 
@@ -165,6 +166,7 @@ pub record EngineCountsCalls (list : List Access) (answers : List Answer) (e : E
     pub rests : EngineCallsAtRest list answers e calls
     pub makes : HostMakes list calls
     pub goes_on : host_idles calls ≡ false
+    pub settles : HostSettles e.bursts calls
 
 -- at `All` no data of another access passed
 abbrev pub engine_most_begun_at : End → ℕ → ℕ
@@ -178,6 +180,7 @@ pub record EngineEndsWithCalls (list : List Access) (answers : List Answer) (e :
   pub stood : EngineStood list answers (engine_most_begun_at end (engine_begun e)) (λ s c f. Unit {0}) calls
   pub makes : HostMakes list calls
   pub idles : end ≡ All → host_idles calls ≡ true
+  pub confirms : HostConfirms e.bursts calls
 
 -- What an engine that opened its target as o reaches in these calls with a list. The calls follow those of the opening.
 pub record EngineListCalls (list : List Access) (o f : Engine) (before after : List Answer) (end : End)
@@ -185,5 +188,6 @@ pub record EngineListCalls (list : List Access) (o f : Engine) (before after : L
   where
     pub answers : List Answer
     pub added : after ≡ before ++ answers
+    pub bursts : f.bursts ≡ o.bursts
     pub ends : (past : List Call) → EngineCountsCalls list [] o past
         → EngineEndsWithCalls list answers f end (made ++ past)

@@ -10,6 +10,7 @@ ghost use Rattle.swd_host.specs.Reports.{Closes, HostRefusesList, RunsOver, host
 ghost use Rattle.swd_host.specs.OpenLists.{ListCloses, ListsWithin};
 ghost use Rattle.swd_host.specs.Fields.{host_report_to};
 ghost use Rattle.swd_host.specs.Sent.{HostCalls, HostReportsCalls};
+ghost use Rattle.swd_host.specs.Confirming.{HostConfirms};
 ghost use Rattle.swd_host.specs.Sessions.{HostOpens};
 
 use crate::block::{reads_of, refusal as block_refusal};
@@ -155,6 +156,7 @@ pub fn run_open_to<W: Wire, K: AnswerSink>(
     ensures plan { W.plan wire.new ≡ W.plan wire.old }
     ensures told { IfOk result (λ ending. HostCalls W.notes (HostReportsCalls accesses.now
         (host_report_to (drop (length (K.taken sink.old)) (K.taken sink.new)) ending)) wire.old wire.new) }
+    ensures confirms { IfOk result (λ ending. HostCalls W.notes (HostConfirms bursts) wire.old wire.new) }
 {
     match refusal(accesses) {
         Some(refused) => Err(refused),
@@ -183,6 +185,7 @@ pub(crate) fn conduct_open<W: Wire, K: AnswerSink>(
     ensures plan { W.plan wire.new ≡ W.plan wire.old }
     ensures told { HostCalls W.notes (HostReportsCalls accesses.now
         (host_report_to (drop (length (K.taken sink.old)) (K.taken sink.new)) result)) wire.old wire.new }
+    ensures confirms { HostCalls W.notes (HostConfirms bursts) wire.old wire.new }
     ensures most { K.most sink.old ≤ K.most sink.new }
     ensures keeps { K.keeps sink.old sink.new }
 {

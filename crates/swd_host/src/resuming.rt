@@ -8,6 +8,8 @@ ghost use Rattle.swd_host.specs.Reports.{host_report_of};
 ghost use Rattle.swd_host.specs.Fields.{host_report_to};
 ghost use Rattle.swd_host.specs.Again.{ResumeCloses, ResumesOver, ResumeReportsCalls};
 ghost use Rattle.swd_host.specs.Resuming.{resume_report};
+ghost use Rattle.swd_host.specs.Confirming.{HostConfirms};
+ghost use Rattle.swd_host.specs.Tasks.{resumed_bursts};
 ghost use Rattle.swd_host.specs.declared.outcome.Refused.TheVariants.{Memory};
 
 use crate::engine::Engine;
@@ -94,6 +96,7 @@ pub fn resume_to<W: Wire, K: AnswerSink>(
     ensures plan { W.plan wire.new ≡ W.plan wire.old }
     ensures told { HostCalls W.notes (ResumeReportsCalls accesses.now (host_report_to (K.taken sink.old) earlier)
         (host_report_to (K.taken sink.new) result)) wire.old wire.new }
+    ensures confirms { HostCalls W.notes (HostConfirms (resumed_bursts bursts)) wire.old wire.new }
 {
     let answered = sink.count();
     let mut engine = Engine::resuming(bursts, tries);

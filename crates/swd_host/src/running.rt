@@ -19,6 +19,7 @@ ghost use Rattle.swd_host.specs.Fields.{host_report_to};
 ghost use Rattle.swd_host.specs.declared.outcome.Refused.TheVariants.{Memory};
 ghost use Rattle.swd_port.specs.declared.access.Answer.{Answer as AnswerType};
 ghost use Rattle.swd_host.specs.Sent.{HostCalls, HostReportsCalls};
+ghost use Rattle.swd_host.specs.Confirming.{HostConfirms};
 ghost use Rattle.swd_host.specs.Stages.{EngineListCalls};
 ghost use Rattle.swd_host.specs.Standing.{EngineDoes, EngineHasOpened, EnginePerforms, engine_report};
 
@@ -370,6 +371,7 @@ pub fn run_to<W: Wire, K: AnswerSink>(
     ensures told { IfOk result (λ ending.
         HostCalls W.notes (HostReportsCalls accesses.now (host_report_to (K.taken sink.new) ending)) wire.old
         wire.new) }
+    ensures confirms { IfOk result (λ ending. HostCalls W.notes (HostConfirms bursts) wire.old wire.new) }
 {
     match refusal(accesses) {
         Some(refused) => Err(refused),
@@ -423,6 +425,7 @@ pub(crate) fn conduct_to<W: Wire, K: AnswerSink>(
     ensures plan { W.plan wire.new ≡ W.plan wire.old }
     ensures told { HostCalls W.notes (HostReportsCalls accesses.now (host_report_to (K.taken sink.new) result)) wire.old
         wire.new }
+    ensures confirms { HostCalls W.notes (HostConfirms engine.bursts) wire.old wire.new }
     ensures most { K.most sink.old ≤ K.most sink.new }
     ensures keeps { K.keeps sink.old sink.new }
 {

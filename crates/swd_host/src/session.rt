@@ -9,6 +9,7 @@ ghost use Rattle.swd_host.specs.Reports.{Closes, HostRefusesList, RunsOver, host
 ghost use Rattle.swd_host.specs.OpenLists.{ListCloses, ListsWithin};
 ghost use Rattle.swd_host.specs.Fields.{host_report_to};
 ghost use Rattle.swd_host.specs.Sent.{HostCalls, HostReportsCalls};
+ghost use Rattle.swd_host.specs.Confirming.{HostConfirms};
 ghost use Rattle.swd_host.specs.Sessions.{HostOpens};
 ghost use Rattle.swd_host.specs.declared.outcome.Refused.TheVariants.{Memory};
 
@@ -152,6 +153,8 @@ impl<'w, W: Wire> Session<'w, W> {
         ensures told { IfOk result (λ ending. HostCalls W.notes (HostReportsCalls accesses.now
             (host_report_to (drop (length (K.taken sink.old)) (K.taken sink.new)) ending))
             self.old.wire.now self.new.wire.now) }
+        ensures confirms { IfOk result (λ ending.
+            HostCalls W.notes (HostConfirms bursts) self.old.wire.now self.new.wire.now) }
     {
         let ending = run_open_to(self.wire, accesses, bursts, self.tries, sink)?;
         self.note(ending.ended);

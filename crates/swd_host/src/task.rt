@@ -12,9 +12,9 @@ use swd_port::{Access, Register};
 #[derive(Clone, Copy, Debug, PartialEq, Eq)]
 pub enum Bursts {
     /// None. A debug port with a write buffer may answer the next DRW write OK before it has made this one, and discard
-    /// it later (IHI 0031, B4); it answers RDBUFF once it has made it. After corrupted data of DRW, TAR is written
-    /// again too, where it was written for this access: an event takes at most six further requests, with the other
-    /// kinds five.
+    /// it later (IHI 0031, B4); it answers RDBUFF once it has made it. So no write of an access port is asked while a
+    /// DRW write is unconfirmed (`HostConfirms`). After corrupted data of DRW, TAR is written again too, where it was
+    /// written for this access: an event takes at most six further requests, with the other kinds five.
     Never,
     /// Writes.
     Writes,

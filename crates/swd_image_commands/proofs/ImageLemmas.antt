@@ -1,6 +1,6 @@
 -- The bytes of a dump, as a list.
 use Rattle.std.proofs.Common.{◌≡◌, ◌+◌, ◌≤◌, ◌%◌, ◌∙◌, ℕ, List, [], Option, None, Some, Result, Ok, Err, ap, inl, inr}
-use Rattle.std.proofs.Common.{Bool, length, refl, subst, sym}
+use Rattle.std.proofs.Common.{length, refl, subst, sym}
 use Rattle.std.specs.Prelude.{◌^◌, IfOk, is_some}
 use Rattle.swd_port.specs.declared.call.Call.{Call}
 use Rattle.swd_port.specs.declared.wire.Wire.{Ghosts}
@@ -14,7 +14,6 @@ use Rattle.swd_image.proofs.DumpLemmas.{dump_bytes_length}
 use Rattle.swd_image_ends.specs.Came.{DumpCame}
 use Rattle.swd_command_line.specs.declared.command.ImageLine.{ImageLine}
 use Rattle.swd_check.specs.declared.checked.Checked.{Checked}
-use Rattle.swd_remote.specs.declared.line.Way.{Way}
 use Rattle.swd_conform.specs.Sessions.{GoesOverChecked}
 use Rattle.swd_console.specs.Connections.{command_way}
 use Rattle.swd_console.specs.Verdicts.{command_status_of_session}
@@ -59,14 +58,6 @@ pub dump_command_somewhere : (old new : Option (List ℕ)) (format : Format) (ad
 dump_command_somewhere old new format addr (Ok bytes) status (inl failed) = inl failed
 dump_command_somewhere old new format addr (Ok bytes) status (inr written) = inr (old, new, written)
 dump_command_somewhere old new format addr (Err error) status is = is.0
-
--- what went over a line, by what the arguments say goes over it
-pub image_went_over_way : {R W : Type 0} (check : Bool) (x y : Way) → x ≡ y → (remaining : R → Option (List ℕ))
-    (contents : W → Option (List ℕ)) (sent left : Option (List ℕ)) (line : RemoteStreams R W) (calls : List Call)
-    (verdict : Option Checked) → ∥ GoesOverChecked check x remaining contents sent left line calls verdict ∥₁
-    → ∥ GoesOverChecked check y remaining contents sent left line calls verdict ∥₁
-image_went_over_way check x y is remaining contents sent left line calls verdict over =
-    subst (λ way. ∥ GoesOverChecked check way remaining contents sent left line calls verdict ∥₁) is over
 
 -- a dump over a line, and what became of its file
 pub dump_command_performed : {V R W : Type 0} (list : V → List ℕ) (story : ℕ → Port) (image : ImageLine)

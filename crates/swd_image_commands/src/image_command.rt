@@ -10,13 +10,12 @@ use crate::simulated_command::perform_simulated;
 use std::alloc::Allocator;
 use std::io::{Read, Write};
 use swd_command_line::{ImageAction, ImageLine};
-use swd_conform::over_checked_line;
 use swd_console::{
-    Clock, Console, Files, InUse, KeepsError, Stream, StreamsInUse, session_status, way_of,
+    Clock, Console, Files, InUse, KeepsError, Stream, StreamsInUse, at_the_target, session_status,
 };
 use swd_image_ends::DumpJob;
 use swd_port::Story;
-use swd_remote::{Line, RemoteStreams};
+use swd_remote::RemoteStreams;
 
 /// Makes the one call of an image, at the target behind the streams or at a simulated one. Prints a line with the
 /// result on standard error. Returns the status and the connection. If the target is simulated, if the image's file
@@ -101,15 +100,12 @@ fn perform_pieces<
         limits: limits_of(image),
         report: image_reports(image, opened, words, &mut *console.errors, console.clock),
     };
-    let (answer, line, verdict) = over_checked_line::<P, _, _, _, _>(
+    let (answer, line, verdict) = at_the_target::<P, _, _, _, _>(
         console.alloc,
-        image.check,
         &mut job,
-        Line {
-            reader: input,
-            writer: output,
-            way: way_of(image.probe),
-        },
+        image.probe,
+        image.check,
+        (input, output),
     );
     let streams = call_streams(job.report.stream(image), &line);
     let came = Came {
@@ -162,15 +158,12 @@ fn perform_dump<
         limits: limits_of(image),
         report: image_reports(image, opened, words, &mut *console.errors, console.clock),
     };
-    let (answer, line, verdict) = over_checked_line::<P, _, _, _, _>(
+    let (answer, line, verdict) = at_the_target::<P, _, _, _, _>(
         console.alloc,
-        image.check,
         &mut job,
-        Line {
-            reader: input,
-            writer: output,
-            way: way_of(image.probe),
-        },
+        image.probe,
+        image.check,
+        (input, output),
     );
     let streams = call_streams(job.report.stream(image), &line);
     let range = range_of(image.addr, count);

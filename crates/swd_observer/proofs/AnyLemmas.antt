@@ -39,6 +39,7 @@ use Rattle.swd_observer.proofs.AskLemmas.{ObservedOkayed, observed_ask_okayed, o
 use Rattle.swd_observer.proofs.AskLemmas.{observed_kind_fits, observed_register_for, observed_posted_value}
 use Rattle.swd_observer.proofs.AskLemmas.{is_observed_writing, is_observed_reading, observed_reads_only}
 use Rattle.swd_observer.proofs.AskLemmas.{observed_writes_only, observed_drw_is_ap}
+use Rattle.swd_observer.proofs.GivenUpLemmas.{observer_knows_before}
 use Rattle.swd_observer.proofs.OkayLemmas.{ObservedSettled, observer_confirm_settles, ObservedSame}
 use Rattle.swd_observer.proofs.OkayLemmas.{observed_same_settled, observer_settled_knows, IsObservedRight}
 use Rattle.swd_observer.proofs.OkayLemmas.{observed_whole_word_has, observed_same_at_okay, observed_same_at_write}
@@ -223,11 +224,12 @@ pub observer_okay_read : (before : List Transfer) (told : List ObservedAccess) (
     → PortAsks s q 1 a → bits < 2 ^ 33 → data_phase_word bits ≡ word_observed ok word
     → PortTakes a bits t → ObserverKnows (ObservedSince before told) o s.target
     → ObserverConfirmed before told o q word ok place t.target
-observer_okay_read before told o q word ok place s d t bits tells reads (a, b, mark, c, first, now, last) range carries
-    takes k =
+observer_okay_read before told o q word ok place s d t bits tells reads (a, e, b, mark, c, first, kept, now, last)
+    range carries takes k =
     observed_read_phase_keeps (ObserverConfirmed before told o q word ok place)
     (λ x y e h. observer_knows_stays _ _ x y e h) d t bits takes
-    (read_asked before told o q word ok place s a b t mark c bits tells reads first now d last range carries takes k)
+    (read_asked before told o q word ok place e e b t mark c bits tells reads (inl refl) now d last range carries takes
+    (observer_knows_before _ o q s e (a, mark, first, kept) k))
 
 write_asked : (before : List Transfer) (told : List ObservedAccess) (o : Observer) (q : Request) (word : ℕ) (ok : Bool)
     (place : ℕ)
@@ -293,10 +295,10 @@ pub observer_okay_write : (before : List Transfer) (told : List ObservedAccess) 
     → data_phase_word bits ≡ word_observed ok word → PortGives d bits t
     → ObserverKnows (ObservedSince before told) o s.target
     → ObserverConfirmed before told o q word ok place t.target
-observer_okay_write before told o q word ok place s d t bits tells writes (a, b, mark, c, first, now, last) range small
-    carries gives k =
-    write_asked before told o q word ok place s a b mark c bits tells writes first now d t last range small carries
-    gives k
+observer_okay_write before told o q word ok place s d t bits tells writes (a, e, b, mark, c, first, kept, now, last)
+    range small carries gives k =
+    write_asked before told o q word ok place e e b mark c bits tells writes (inl refl) now d t last range small carries
+    gives (observer_knows_before _ o q s e (a, mark, first, kept) k)
 
 -- after OK to a request that isn't exempt, with its data phase, what is known is true, once the transfer in flight is
 -- reported as `Took`, and the request itself if it may be an access

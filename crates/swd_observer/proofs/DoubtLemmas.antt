@@ -22,8 +22,8 @@ use Rattle.swd_observer.specs.Observing.{observed_word_of_begun, observed_tar_lo
 use Rattle.swd_observer.specs.Observing.{observer_unsure, observed_sent_unsure, observer_doubted}
 use Rattle.swd_observer.specs.Observing.{observed_increments_sent, observed_whole}
 use Rattle.swd_observer.specs.Explained.{ObservedSince, one_observed}
-use Rattle.swd_observer.specs.Knows.{ObservedFlying, owed, gone, failed, ObservedResting, ObservedFlight, ObserverHolds}
-use Rattle.swd_observer.specs.Knows.{ObserverKnows, here, spoiled}
+use Rattle.swd_observer.specs.Knows.{ObservedFlying, owed, gone, failed, given_up, ObservedResting, ObservedFlight}
+use Rattle.swd_observer.specs.Knows.{ObserverHolds, ObserverKnows, here, spoiled}
 use Rattle.swd_observer.proofs.ExplainLemmas.{observed_since_may_took, observed_since_may_not}
 use Rattle.swd_observer.proofs.KnownLemmas.{observed_flying_completes, observer_unsent}
 use Rattle.swd_observer.proofs.OkayLemmas.{ObservedSame, observed_same_value}
@@ -64,6 +64,8 @@ may_now before told how b increments tar x may (gone calm none t log fits is e b
       word = word_may b.read b.word t fits.word;
     }) e)
 may_now before told how b increments tar x d (failed none error e) =
+    none_so_far before told (doubtful how b tar) x x.memory.log d e
+may_now before told how b increments tar x d (given_up none error at e) =
     none_so_far before told (doubtful how b tar) x x.memory.log d e
 
 log_same : (c : Choice) (x y : Target) → ObservedSame x y → (port_completion c y).memory ≡ (port_completion c x).memory

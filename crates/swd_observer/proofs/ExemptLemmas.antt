@@ -1,6 +1,6 @@
 -- The exempt requests: DPIDR shows nothing, and after ABORT it is unknown whether the transfer in flight took
 -- effect.
-use Rattle.std.proofs.Common.{◌≡◌, ℕ, Bool, true, false, List, ◌++◌, refl, sym, ap, subst, ◌∙◌}
+use Rattle.std.proofs.Common.{◌≡◌, ℕ, Bool, true, false, List, ◌++◌, refl, sym, ap, subst, inl, ◌∙◌}
 use Rattle.std.specs.Prelude.{Option, Some, None, if◌then◌else◌, ◌==◌}
 use Rattle.swd_bits.specs.declared.request.Request.{Request}
 use Rattle.swd_bits.specs.declared.request.Reg4.{Reg4}
@@ -26,15 +26,16 @@ use Rattle.swd_observer.specs.declared.observer.Standing.{Standing}
 use Rattle.swd_observer.specs.Observing.{Passes, Aborts, Confirms, observed_class_dp, observed_class, observed_doubt}
 use Rattle.swd_observer.specs.Observing.{observer_doubted, observer_arrival, is_other_bank_observed}
 use Rattle.swd_observer.specs.Explained.{ObservedSince, one_observed}
-use Rattle.swd_observer.specs.Knows.{ObservedFlying, owed, gone, failed, ObservedFlight, ObserverHolds, ObserverKnows}
-use Rattle.swd_observer.specs.Knows.{here, spoiled, ObservedStands}
+use Rattle.swd_observer.specs.Knows.{ObservedFlying, owed, gone, failed, given_up, ObservedFlight, ObserverHolds}
+use Rattle.swd_observer.specs.Knows.{ObserverKnows, here, spoiled, ObservedStands}
 use Rattle.swd_observer.specs.Transacts.{ObservedMoves}
 use Rattle.swd_observer.specs.Laws.{ObserverAtAbort, ObserverAtDpidr, observed_list_flushed}
 use Rattle.swd_observer.proofs.KnownLemmas.{observer_knows_stays}
 use Rattle.swd_observer.proofs.AskLemmas.{ObservedOkayed, observed_ask_okayed}
 use Rattle.swd_observer.proofs.OlderLemmas.{observer_awaits_by, observer_all_flushed, observed_stands_same}
-use Rattle.swd_observer.proofs.OlderLemmas.{observed_stands_stays, observed_stands_taken}
+use Rattle.swd_observer.proofs.OlderLemmas.{observed_stands_stays, observed_stands_taken, observed_stands_before}
 use Rattle.swd_observer.proofs.OkayLemmas.{observed_same_at_data}
+use Rattle.swd_observer.proofs.GivenUpLemmas.{observer_knows_before}
 use Rattle.swd_observer.proofs.StepLemmas.{observed_read_phase_keeps, observed_line_at_write}
 use Rattle.swd_observer.proofs.DoubtLemmas.{observer_knows_in_doubt}
 
@@ -116,8 +117,9 @@ abort_step : (before : List Transfer) (told : List ObservedAccess) (o : Observer
     → observed_class o q ≡ Aborts → PortAsks s q 1 d → PortGives d bits t
     → ObserverKnows (ObservedSince before told) o s.target
     → ObserverKnows (ObservedSince before (told ++ one_observed (observed_doubt o))) (observer_doubted o) t.target
-abort_step before told o q s d t bits is (a, b, mark, c, first, now, last) gives k =
-    abort_asked before told o q s a b d t mark c bits is first now last gives k
+abort_step before told o q s d t bits is (a, e, b, mark, c, first, kept, now, last) gives k =
+    abort_asked before told o q e e b d t mark c bits is (inl refl) now last gives
+    (observer_knows_before _ o q s e (a, mark, first, kept) k)
 
 gives_of : (read : Bool) (a : Port) (bits : ℕ) (t : Port) → read ≡ false → ObservedMoves read a bits t
     → PortGives a bits t
@@ -156,6 +158,7 @@ flies_live E b increments tar chosen x (gone calm none t log fits is e buffer ne
       debug_up = calm.debug_up;
     }) none t log fits is e buffer next
 flies_live E b increments tar chosen x (failed none error e) = failed none error e
+flies_live E b increments tar chosen x (given_up none error at e) = given_up none error at e
 
 flight_live : (E : List Transfer → Type 0) (b : Option StartedTransfer) (increments : Option Bool) (tar : Option ℕ)
     (chosen : Choice) (x : Target) → ObservedFlight E b increments tar x
@@ -179,20 +182,20 @@ knows_live E o chosen x (spoiled error rest h) = spoiled error rest (holds_live 
 
 dpidr_step : (E : List Transfer → Type 0) (o : Observer) (q : Request) (s d : Port) → observed_class o q ≡ Passes
     → PortAsks s q 1 d → ObserverKnows E o s.target → ObserverKnows E o d.target
-dpidr_step E o q s d is (a, b, mark, c, first, now, last) k =
-    let h : ObservedOkayed a q b = observed_ask_okayed mark c a q b now in
+dpidr_step E o q s d is (a, e, b, mark, c, first, kept, now, last) k =
+    let h : ObservedOkayed e q b = observed_ask_okayed mark c e q b now in
     observer_knows_stays E o b d last (subst (ObserverKnows E o) (sym (h.target
-    ∙ ap (λ r. port_after_okay h.choice r a.target) (dpidr_is o a.target.select q is).0))
-    (knows_live E o h.choice a.target (observer_knows_stays E o s a first k)))
+    ∙ ap (λ r. port_after_okay h.choice r e.target) (dpidr_is o e.target.select q is).0))
+    (knows_live E o h.choice e.target (observer_knows_before E o q s e (a, mark, first, kept) k)))
 
 stands_live : (z : Standing) (word : ℕ) (o : Observer) (q : Request) (s d : Port) → observed_class o q ≡ Passes
     → PortAsks s q 1 d → ObservedStands z word s.target → ObservedStands z word d.target
-stands_live z word o q s d is (a, b, mark, c, first, now, last) v =
-    let h : ObservedOkayed a q b = observed_ask_okayed mark c a q b now in
+stands_live z word o q s d is (a, e, b, mark, c, first, kept, now, last) v =
+    let h : ObservedOkayed e q b = observed_ask_okayed mark c e q b now in
     observed_stands_stays z word b d last (subst (ObservedStands z word) (sym (h.target
-    ∙ ap (λ r. port_after_okay h.choice r a.target) (dpidr_is o a.target.select q is).0))
-    (observed_stands_same z word a.target (port_after_okay h.choice DpidrRead a.target) refl refl refl
-    (observed_stands_stays z word s a first v)))
+    ∙ ap (λ r. port_after_okay h.choice r e.target) (dpidr_is o e.target.select q is).0))
+    (observed_stands_same z word e.target (port_after_okay h.choice DpidrRead e.target) refl refl refl
+    (observed_stands_before z word q s e (a, mark, first, kept) v)))
 
 -- after a DPIDR read that is answered OK, what was known is true, with nothing reported
 pub observer_knows_dpidr : ObserverAtDpidr

@@ -15,8 +15,9 @@ use Rattle.swd_observer.specs.declared.observer.Observer.{Observer}
 use Rattle.swd_observer.specs.declared.observer.StartedTransfer.{StartedTransfer}
 use Rattle.swd_observer.specs.declared.observer.SentWrite.{SentWrite}
 use Rattle.swd_observer.specs.Observing.{observer_arrival, observed_tar_advance}
-use Rattle.swd_observer.specs.Knows.{ObservedCalm, IsObservedPending, ObservedFlying, owed, gone, failed}
+use Rattle.swd_observer.specs.Knows.{ObservedCalm, IsObservedPending, ObservedFlying, owed, gone, failed, given_up}
 use Rattle.swd_observer.specs.Knows.{ObservedResting, ObservedFlight, ObserverHolds, ObserverKnows, here, spoiled}
+use Rattle.swd_observer.specs.Knows.{IsObservedSent}
 
 -- nothing pending: a completion does nothing
 pub observed_no_pending_keeps : (P : Target → Type 0) (c : Choice) (x : Target) → x.pending ≡ None → P x
@@ -111,6 +112,8 @@ observed_flying_completes E b increments tar c x inc (gone calm none t log fits 
     (gone calm none t log fits is e buffer next)
 observed_flying_completes E b increments tar c x inc (failed none error e) =
     observed_no_pending_keeps (λ y. ObservedFlying E b increments tar y) c x none (failed none error e)
+observed_flying_completes E b increments tar c x inc (given_up none error at e) =
+    observed_no_pending_keeps (λ y. ObservedFlying E b increments tar y) c x none (given_up none error at e)
 
 flight_on : (E : List Transfer → Type 0) (b : Option StartedTransfer) (increments : Option Bool) (tar : Option ℕ)
     (c : Choice) (x : Target) → IsPortChoice c → IfSome increments (λ b. x.increments ≡ b)
@@ -128,14 +131,19 @@ observer_holds_completed E o c x choice h = record {
 }
 
 -- no write was sent
-pub observer_unsent : (sent : Option SentWrite) (P : Type 0) → sent ≡ None → IfSome sent (λ s. P)
+pub observer_unsent : (sent : Option SentWrite) (P : SentWrite → Type 0) → sent ≡ None → IfSome sent P
 observer_unsent None P e = tt
 observer_unsent (Some s) P e = absurd (cc)
+
+sent_completes : (sent : Option SentWrite) (begun : Option StartedTransfer) (c : Choice) (x : Target)
+    → IfSome sent (IsObservedSent begun x) → IfSome sent (IsObservedSent begun (port_completion c x))
+sent_completes None begun c x is = tt
+sent_completes (Some s) begun c x is = (is.0, is.1, λ e. refl)
 
 pub observer_knows_completed : (E : List Transfer → Type 0) (o : Observer) (c : Choice) (x : Target) → IsPortChoice c
     → ObserverKnows E o x → ObserverKnows E o (port_completion c x)
 observer_knows_completed E o c x choice (here clean h) =
-    here clean (observer_holds_completed E (observer_arrival o) c x choice h)
+    here (sent_completes o.sent o.begun c x clean) (observer_holds_completed E (observer_arrival o) c x choice h)
 observer_knows_completed E o c x choice (spoiled error rest h) =
     spoiled error rest (observer_holds_completed E (record o { sent = None }) c x choice h)
 

@@ -2,6 +2,7 @@ pub mod ExplainLemmas
 pub mod KnownLemmas
 pub mod AskLemmas
 pub mod OkayLemmas
+pub mod GivenUpLemmas
 pub mod StepLemmas
 pub mod RefusedLemmas
 pub mod NotedLemmas

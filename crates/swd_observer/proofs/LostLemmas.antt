@@ -41,6 +41,7 @@ use Rattle.swd_observer.proofs.AskLemmas.{observed_register_for}
 use Rattle.swd_observer.proofs.NotedLemmas.{observer_unanswered_older}
 use Rattle.swd_observer.proofs.OlderLemmas.{observer_awaits_none, observer_all_flushed}
 use Rattle.swd_observer.proofs.OkayLemmas.{ObservedSame}
+use Rattle.swd_observer.proofs.GivenUpLemmas.{observer_knows_before}
 use Rattle.swd_observer.proofs.DoubtLemmas.{observer_holds_in_doubt, observer_doubted_unsent}
 
 abbrev lost_read : Option ℕ → ℕ → ObservedAccess
@@ -234,9 +235,9 @@ lost_asked : (before : List Transfer) (told : List ObservedAccess) (o : Observer
     → ObserverKnows (ObservedSince before ((told ++ one_observed (observed_doubt o))
     ++ one_observed (observed_unanswered_read (observed_kind (observer_doubted o).select q) (observer_doubted o).tar
     place))) (observer_unanswered (observed_kind (observer_doubted o).select q) (observer_doubted o)) t.target
-lost_asked before told o q seen place s t (a, b, mark, c, first, now, last) k =
-    observer_knows_stays _ _ b t last (lost_now before told o q seen place mark c a b now
-    (observer_knows_stays (ObservedSince before told) o s a first k))
+lost_asked before told o q seen place s t (a, d, b, mark, c, first, kept, now, last) k =
+    observer_knows_stays _ _ b t last (lost_now before told o q seen place mark c d b now
+    (observer_knows_before (ObservedSince before told) o q s d (a, mark, first, kept) k))
 
 -- after a request without acknowledgement what is known is true, once the transfer in flight is reported as `May`, and
 -- the request itself as `May` if it may read DRW

@@ -1,6 +1,7 @@
 -- The theorem: ones and zeros, the line between two transactions, and whole runs.
 use Rattle.std.proofs.Common.{◌≡◌, ℕ, Bool, true, false, List, [], ◌∷◌, ◌++◌, refl, sym, ap, subst, arith, ◌∙◌}
-use Rattle.std.proofs.Common.{append-nil}
+use Rattle.std.proofs.Common.{append-nil, inl, inr}
+use Rattle.std.proofs.lemmas.Bool.{and_parts, eqb-true}
 use Rattle.std.specs.Prelude.{Option, Some, None, if◌then◌else◌, ◌==◌, ◌||◌, ◌&&◌, not as no}
 use Rattle.swd_bits.specs.declared.request.Request.{Request}
 use Rattle.swd_bits.specs.declared.tx.TxEnd.{TxEnd}
@@ -11,7 +12,9 @@ use Rattle.swd_port.specs.declared.state.Reset.TheVariants.{Fresh}
 use Rattle.swd_port.specs.declared.state.Reply.TheVariants.{Waits, Faults}
 use Rattle.swd_port.specs.declared.state.AfterAck.{AfterAck}
 use Rattle.swd_port.specs.declared.state.AfterAck.TheVariants.{Idle}
-use Rattle.swd_port.specs.Port.{Port, Target, port_register}
+use Rattle.swd_port.specs.declared.select.Select.{Select}
+use Rattle.swd_port.specs.Registers.{port_select_zero}
+use Rattle.swd_port.specs.Port.{Port, Target, port_register, port_selects_mem_ap}
 use Rattle.swd_port.specs.Made.{port_made}
 use Rattle.swd_port.specs.Completion.{PortCompletes}
 use Rattle.swd_port.specs.Leading.{PortLeads, port_line_awaits, port_after_lead}
@@ -24,18 +27,20 @@ use Rattle.swd_observer.specs.declared.observer.Observer.{Observer}
 use Rattle.swd_observer.specs.declared.observer.StartedTransfer.{StartedTransfer}
 use Rattle.swd_observer.specs.Observing.{observer_arrival, observer_arrival_of, observed_doubt, observed_last_accesses}
 use Rattle.swd_observer.specs.Observing.{observer_doubted, observer_unknown, observer_as_made, observer_after_tx_end}
-use Rattle.swd_observer.specs.Observing.{observed_kind, is_observed_read_kind}
+use Rattle.swd_observer.specs.Observing.{observed_kind, is_observed_read_kind, observer_at_rest}
 use Rattle.swd_observer.specs.Explained.{ObservedSince, and_observed, one_observed}
 use Rattle.swd_observer.specs.Laws.{observed_list_flushed}
-use Rattle.swd_observer.specs.Knows.{ObservedFlying, owed, gone, failed, ObservedResting, ObservedFlight, ObserverHolds}
-use Rattle.swd_observer.specs.Knows.{ObserverKnows, here, spoiled}
+use Rattle.swd_observer.specs.Knows.{ObservedFlying, owed, gone, failed, given_up, ObservedResting, ObservedFlight}
+use Rattle.swd_observer.specs.Knows.{ObserverHolds, ObserverKnows, here, spoiled}
 use Rattle.swd_observer.specs.Transacts.{ObservedTransacts, ObservedMoves as Phase}
 use Rattle.swd_observer.specs.Runs.{ObservedEvent, Moves, Lifts, ObservedHappens, ObservedRuns, observer_after_event}
 use Rattle.swd_observer.specs.Runs.{observed_with_event, observer_after, observed_in_events, ObserverKnowsPort}
 use Rattle.swd_observer.specs.Runs.{Accounted, ObservedRunsAccounted, ObservedMadeAccounted, ObservedAnyAccounted}
+use Rattle.swd_observer.specs.Runs.{ObservedRestAccounted}
 use Rattle.swd_observer.proofs.OlderLemmas.{observer_awaits_by, observer_all_flushed, observed_stands_same}
 use Rattle.swd_observer.proofs.OlderLemmas.{observer_watches_stay}
 use Rattle.swd_observer.proofs.KnownLemmas.{observer_unsent, observed_no_pending_keeps}
+use Rattle.swd_observer.proofs.GivenUpLemmas.{ObservedBefore}
 use Rattle.swd_observer.proofs.RefusedLemmas.{observed_wait_reply, observed_fault_reply}
 use Rattle.swd_observer.proofs.LostLemmas.{observed_same_self, observer_unanswered_unsent}
 use Rattle.swd_observer.proofs.DoubtLemmas.{observer_holds_in_doubt, observer_doubted_unsent}
@@ -58,6 +63,7 @@ flies_anew E b increments tar r x (gone calm none t log fits is e buffer next) =
   debug_up = calm.debug_up;
 }) none t log fits is e buffer next
 flies_anew E b increments tar r x (failed none error e) = failed none error e
+flies_anew E b increments tar r x (given_up none error at e) = given_up none error at e
 
 flight_anew : (E : List Transfer → Type 0) (b : Option StartedTransfer) (increments : Option Bool) (tar : Option ℕ)
     (r : Reset) (x : Target) → ObservedFlight E b increments tar x
@@ -163,19 +169,25 @@ line_passed s t (a, b, first, now, last) =
     ap (λ l. l.line) (port_kept b t last).link ∙ ap (λ p. p.link.line) now.after ∙ ap (λ l. l.line)
     (port_kept s a first).link
 
+line_before : (q : Request) (s d : Port) → ObservedBefore q s d → d.link.line ≡ s.link.line
+line_before q s d (a, mark, first, inl e) =
+    ap (λ p. p.link.line) e ∙ ap (λ l. l.line) (port_kept s a first).link
+line_before q s d (a, mark, first, inr gave) =
+    ap (λ p. p.link.line) gave.after ∙ ap (λ l. l.line) (port_kept s a first).link
+
 line_waited : (q : Request) (s t : Port) → PortAsks s q 2 t → t.link.line ≡ s.link.line
-line_waited q s t (a, b, mark, c, first, now, last) =
+line_waited q s t (e, a, b, mark, c, first, kept, now, last) =
     let is : port_reply mark a.target q ≡ Waits = observed_wait_reply mark (port_reply mark a.target q) now.sees in
     let after = told_reply mark c Waits (port_register a.target.select q) a q 2 b is refl now in
-    ap (λ l. l.line) (port_kept b t last).link ∙ ap (λ p. p.link.line) after.after ∙ ap (λ l. l.line)
-    (port_kept s a first).link
+    ap (λ l. l.line) (port_kept b t last).link ∙ ap (λ p. p.link.line) after.after
+    ∙ line_before q s a (e, mark, first, kept)
 
 line_faulted : (q : Request) (s t : Port) → PortAsks s q 4 t → t.link.line ≡ s.link.line
-line_faulted q s t (a, b, mark, c, first, now, last) =
+line_faulted q s t (e, a, b, mark, c, first, kept, now, last) =
     let is : port_reply mark a.target q ≡ Faults = observed_fault_reply mark (port_reply mark a.target q) now.sees in
     let after = told_reply mark c Faults (port_register a.target.select q) a q 4 b is refl now in
-    ap (λ l. l.line) (port_kept b t last).link ∙ ap (λ p. p.link.line) after.after ∙ ap (λ l. l.line)
-    (port_kept s a first).link
+    ap (λ l. l.line) (port_kept b t last).link ∙ ap (λ p. p.link.line) after.after
+    ∙ line_before q s a (e, mark, first, kept)
 
 begun_none : (read : Bool) (d : Observer) → d.begun ≡ None → (if read then record d { tar = None } else d).begun ≡ None
 begun_none true d e = e
@@ -236,6 +248,15 @@ observed_runs_accounted before told o events s t k r =
 none_yet : (log : List Transfer) → ObservedSince log [] log
 none_yet log = record { more = []; is = sym (append-nil log); explains = refl }
 
+-- nothing is in flight where nothing is pending
+unmoved : (x : Target) → x.pending ≡ None → ObservedResting (ObservedSince x.memory.log []) None x
+unmoved x none = record {
+  now = none_yet x.memory.log;
+  later = λ c k. observed_no_pending_keeps (λ y. ObservedSince x.memory.log [] y.memory.log) c x none
+      (none_yet x.memory.log);
+  aimed = tt;
+}
+
 -- the same from a target in its reset state, by an observer of such a target
 pub observed_made_accounted : ObservedMadeAccounted
 observed_made_accounted identification m events t r =
@@ -249,6 +270,30 @@ observed_made_accounted identification m events t r =
       waits = λ e. absurd (cc);
     }) r
 
+-- SELECT is 0
+at_zero : (select : Select) → port_selects_mem_ap select ≡ true → (select.dpbanksel == 0) ≡ true
+    → select ≡ port_select_zero
+at_zero select mem_ap bank0 =
+    let ap_zero = and_parts (select.apsel == 0) (select.apbanksel == 0) mem_ap in
+    ap (λ n. record { apsel = n; apbanksel = select.apbanksel; dpbanksel = select.dpbanksel })
+    (eqb-true select.apsel 0 ap_zero.0)
+    ∙ ap (λ n. record { apsel = 0; apbanksel = n; dpbanksel = select.dpbanksel })
+    (eqb-true select.apbanksel 0 ap_zero.1)
+    ∙ ap (λ n. record { apsel = 0; apbanksel = 0; dpbanksel = n }) (eqb-true select.dpbanksel 0 bank0)
+
+-- the same from a target at rest, by an observer that knows that it is
+pub observed_rest_accounted : ObservedRestAccounted
+observed_rest_accounted events s t rests r =
+    observed_runs_accounted s.target.memory.log [] observer_at_rest events s t (record {
+      knows = here tt (record {
+        select = at_zero s.target.select rests.mem_ap rests.bank0;
+        increments = tt;
+        range = tt;
+        flight = unmoved s.target rests.pending;
+      });
+      waits = λ e. absurd (let clash : true ≡ false = sym e ∙ rests.idle in cc);
+    }) r
+
 -- the same by an observer that knows nothing, from a state with no transfer pending and no write data awaited
 pub observed_any_accounted : ObservedAnyAccounted
 observed_any_accounted events s t none idle r =
@@ -257,12 +302,7 @@ observed_any_accounted events s t none idle r =
         select = tt;
         increments = tt;
         range = tt;
-        flight = record {
-          now = none_yet s.target.memory.log;
-          later = λ c k. observed_no_pending_keeps (λ y. ObservedSince s.target.memory.log [] y.memory.log) c s.target
-              none (none_yet s.target.memory.log);
-          aimed = tt;
-        };
+        flight = unmoved s.target none;
       });
       waits = λ e. absurd (let clash : true ≡ false = sym e ∙ idle in cc);
     }) r

@@ -33,8 +33,8 @@ use Rattle.swd_observer.specs.Observing.{observer_confirmed, observed_flight_acc
 use Rattle.swd_observer.specs.Observing.{observed_word_of_begun, observed_increments_in, observed_whole}
 use Rattle.swd_observer.specs.Observing.{observer_accepted}
 use Rattle.swd_observer.specs.Explained.{ObservedSince, one_observed}
-use Rattle.swd_observer.specs.Knows.{owed, gone, failed, ObservedResting, ObservedFlight, ObserverHolds, ObserverKnows}
-use Rattle.swd_observer.specs.Knows.{here, spoiled}
+use Rattle.swd_observer.specs.Knows.{owed, gone, failed, given_up, ObservedResting, ObservedFlight, ObserverHolds}
+use Rattle.swd_observer.specs.Knows.{ObserverKnows, here, spoiled}
 use Rattle.swd_observer.proofs.ExplainLemmas.{observed_since_took}
 use Rattle.swd_observer.proofs.KnownLemmas.{observed_no_pending_keeps, observer_unsent}
 use Rattle.swd_observer.proofs.AskLemmas.{is_observed_harmless, observed_register_for}
@@ -59,19 +59,21 @@ matched_word true None word t x f g right = tt
 matched_word true (Some w) word t x f g right = right t.word (g refl)
 matched_word false got word t x f g right = f refl
 
-aimed_only : (tar : Option ℕ) (x : Target) → IfSome tar (λ a. (x.tar ≡ Some a) × (x.pending ≡ None))
+-- TAR is where it is known to be, whatever is pending
+pub observed_aimed_only : (tar : Option ℕ) (x : Target) → IfSome tar (λ a. (x.tar ≡ Some a) × (x.pending ≡ None))
     → IfSome tar (λ a. x.tar ≡ Some a)
-aimed_only None x h = tt
-aimed_only (Some a) x h = h.0
+observed_aimed_only None x h = tt
+observed_aimed_only (Some a) x h = h.0
 
 aimed_both : (tar : Option ℕ) (x : Target) → x.pending ≡ None → IfSome tar (λ a. x.tar ≡ Some a)
     → IfSome tar (λ a. (x.tar ≡ Some a) × (x.pending ≡ None))
 aimed_both None x none h = tt
 aimed_both (Some a) x none h = (h, none)
 
-rests_by : (E : List Transfer → Type 0) (tar : Option ℕ) (x : Target) → IfSome tar (λ a. x.tar ≡ Some a)
+-- with nothing pending, the reports that explain the log still do whatever completes
+pub observed_rests_by : (E : List Transfer → Type 0) (tar : Option ℕ) (x : Target) → IfSome tar (λ a. x.tar ≡ Some a)
     → E x.memory.log → x.pending ≡ None → ObservedResting E tar x
-rests_by E tar x aimed now none = record {
+observed_rests_by E tar x aimed now none = record {
   now = now;
   later = λ c k. observed_no_pending_keeps (λ y. E y.memory.log) c x none now;
   aimed = aimed_both tar x none aimed;
@@ -80,19 +82,19 @@ rests_by E tar x aimed now none = record {
 -- in a settled state the reports explain the log, and still do whatever completes
 pub observed_settled_rests : (E : List Transfer → Type 0) (o : Observer) (x : Target) → ObservedSettled E o x
     → ObservedResting E o.tar x
-observed_settled_rests E o x h = rests_by E o.tar x h.aimed h.now h.none
+observed_settled_rests E o x h = observed_rests_by E o.tar x h.aimed h.now h.none
 
 -- the transfer in flight, once nothing is pending and no flag is set
 settle : (before : List Transfer) (told : List ObservedAccess) (got : Option ℕ) (b : Option StartedTransfer)
-    (increments : Option Bool) (tar : Option ℕ) (x : Target) → x.sticky_error ≡ false → x.pending ≡ None
-    → IsObservedRight got x → ObservedFlight (ObservedSince before told) b increments tar x
+    (increments : Option Bool) (tar : Option ℕ) (x : Target) → x.sticky_error ≡ false → x.write_error ≡ false
+    → x.pending ≡ None → IsObservedRight got x → ObservedFlight (ObservedSince before told) b increments tar x
     → ObservedSince before (told ++ one_observed (observed_begun Took got tar b)) x.memory.log
     × IfSome (observed_tar_done b increments tar) (λ a. x.tar ≡ Some a)
-settle before told got None increments tar x quiet none right h =
-    (subst (λ l. ObservedSince before l x.memory.log) (sym (append-nil told)) h.now, aimed_only tar x h.aimed)
-settle before told got (Some b) increments tar x quiet none right (owed calm drw pending of at e) =
+settle before told got None increments tar x quiet whole none right h =
+    (subst (λ l. ObservedSince before l x.memory.log) (sym (append-nil told)) h.now, observed_aimed_only tar x h.aimed)
+settle before told got (Some b) increments tar x quiet whole none right (owed calm drw pending of at e) =
     absurd (let clash : Some drw ≡ None = sym pending ∙ none in cc)
-settle before told got (Some b) increments tar x quiet none right (gone calm rest t log fits is e buffer next) = (
+settle before told got (Some b) increments tar x quiet whole none right (gone calm rest t log fits is e buffer next) = (
   subst (λ l. ObservedSince before (told ++ one_observed (observed_begun Took got tar (Some b))) l) (sym is)
       (observed_since_took before told
       (record { place = b.place; read = b.read; addr = tar; word = observed_word_of_begun b got; how = Took }) t log
@@ -103,8 +105,10 @@ settle before told got (Some b) increments tar x quiet none right (gone calm res
       }) e),
   next,
 )
-settle before told got (Some b) increments tar x quiet none right (failed rest error e) =
+settle before told got (Some b) increments tar x quiet whole none right (failed rest error e) =
     absurd (let clash : true ≡ false = sym error ∙ quiet in cc)
+settle before told got (Some b) increments tar x quiet whole none right (given_up rest error at e) =
+    absurd (let clash : true ≡ false = sym error ∙ whole in cc)
 
 range_at : (test : Bool) (at : ℕ) → at < 2 ^ 32 → ((at % 4 == 0) && no (at % 1024 == 1020)) ≡ test
     → IfSome (if test then Some (at + 4) else None) (λ a. a < 2 ^ 32)
@@ -134,7 +138,7 @@ pub observer_confirm_settles : (before : List Transfer) (told : List ObservedAcc
     (observer_confirmed o) x
 observer_confirm_settles before told got o x quiet whole none right (here clean h) =
     let found = settle before told got (observer_arrival o).begun (observer_arrival o).increments
-    (observer_arrival o).tar x quiet none right h.flight in
+    (observer_arrival o).tar x quiet whole none right h.flight in
     record {
       select = h.select;
       increments = h.increments;
@@ -333,34 +337,39 @@ pub observer_knows_arrival : (E : List Transfer → Type 0) (o : Observer) (x : 
     → IfSome known (λ v. word ≡ v) → ObservedSettled E o x
     → ObserverKnows E (observer_accepted (Writes w) known place o)
     (port_after_bits refuses (Arrives (observed_register_for w) word) x)
-observer_knows_arrival E o x ToSelect known word place refuses rest quiet intact power up range is h = here intact
+observer_knows_arrival E o x ToSelect known word place refuses rest quiet intact power up range is h =
+    here (intact, rest, λ e. h.none)
     (record {
       select = mapped Select select_of known word is;
       increments = h.increments;
       range = h.range;
       flight = subst (λ b. ObservedFlight E b o.increments o.tar (port_after_bits refuses (Arrives SelectWrite word) x))
-          (sym rest) (rests_by E o.tar (port_after_bits refuses (Arrives SelectWrite word) x) h.aimed h.now h.none);
+          (sym rest) (observed_rests_by E o.tar (port_after_bits refuses (Arrives SelectWrite word) x) h.aimed h.now
+          h.none);
     })
-observer_knows_arrival E o x ToCsw known word place refuses rest quiet intact power up range is h = here intact
+observer_knows_arrival E o x ToCsw known word place refuses rest quiet intact power up range is h =
+    here (intact, rest, λ e. h.none)
     (record {
       select = h.select;
       increments = stepped known word is;
       range = h.range;
       flight = subst (λ b. ObservedFlight E b (option_and_then observed_increments_in known) o.tar
           (port_after_bits refuses (Arrives CswWrite word) x)) (sym rest)
-          (rests_by E o.tar (port_after_bits refuses (Arrives CswWrite word) x) h.aimed h.now h.none);
+          (observed_rests_by E o.tar (port_after_bits refuses (Arrives CswWrite word) x) h.aimed h.now h.none);
     })
-observer_knows_arrival E o x ToTar known word place refuses rest quiet intact power up range is h = here intact
+observer_knows_arrival E o x ToTar known word place refuses rest quiet intact power up range is h =
+    here (intact, rest, λ e. h.none)
     (record {
       select = h.select;
       increments = h.increments;
       range = range;
       flight = subst (λ b. ObservedFlight E b o.increments known (port_after_bits refuses (Arrives TarWrite word) x))
           (sym rest)
-          (rests_by E known (port_after_bits refuses (Arrives TarWrite word) x)
+          (observed_rests_by E known (port_after_bits refuses (Arrives TarWrite word) x)
           (tar_arrives known word is) h.now h.none);
     })
-observer_knows_arrival E o x ToDrw known word place refuses rest quiet intact power up range is h = here intact
+observer_knows_arrival E o x ToDrw known word place refuses rest quiet intact power up range is h =
+    here (intact, rest, λ e. absurd (cc))
     (record {
       select = h.select;
       increments = h.increments;

@@ -19,11 +19,13 @@ use Rattle.swd_observer.specs.declared.observer.Standing.{Standing}
 use Rattle.swd_observer.specs.declared.observer.Standing.TheVariants.{Buffer, Returned}
 use Rattle.swd_observer.specs.Observing.{observer_arrival, observed_older}
 use Rattle.swd_observer.specs.Explained.{ObservedSince, one_observed}
-use Rattle.swd_observer.specs.Knows.{ObservedFlying, owed, gone, failed, ObservedFlight, ObserverHolds, ObserverKnows}
-use Rattle.swd_observer.specs.Knows.{here, spoiled, IsObservedOlder, ObservedStands, ObserverAwaits, ObserverWatches}
+use Rattle.swd_observer.specs.Knows.{ObservedFlying, owed, gone, failed, given_up, ObservedFlight, ObserverHolds}
+use Rattle.swd_observer.specs.Knows.{ObserverKnows, here, spoiled, IsObservedOlder, ObservedStands, ObserverAwaits}
+use Rattle.swd_observer.specs.Knows.{ObserverWatches}
 use Rattle.swd_observer.specs.Laws.{ObserverKnowsSince, ObserverAtWait, ObserverAtFault}
 use Rattle.swd_observer.proofs.ExplainLemmas.{observed_since_took}
 use Rattle.swd_observer.proofs.KnownLemmas.{observer_knows_stays, observed_no_pending_keeps}
+use Rattle.swd_observer.proofs.GivenUpLemmas.{ObservedBefore}
 use Rattle.swd_observer.proofs.RefusedLemmas.{observed_wait_reply, observed_fault_reply, observer_knows_wait}
 use Rattle.swd_observer.proofs.RefusedLemmas.{observer_knows_fault}
 
@@ -35,6 +37,7 @@ flies_as E F f b increments tar x (owed calm drw pending of at e) = owed calm dr
 flies_as E F f b increments tar x (gone calm none t log fits is e buffer next) =
     gone calm none t log fits is (f log e) buffer next
 flies_as E F f b increments tar x (failed none error e) = failed none error (f x.memory.log e)
+flies_as E F f b increments tar x (given_up none error at e) = given_up none error at (f x.memory.log e)
 
 flight_as : (E F : List Transfer → Type 0) (f : (log : List Transfer) → E log → F log) (b : Option StartedTransfer)
     (increments : Option Bool) (tar : Option ℕ) (x : Target) → ObservedFlight E b increments tar x
@@ -122,12 +125,26 @@ stands_on : (s : Standing) (word : ℕ) (c : Choice) (x : Target) → ObservedSt
 stands_on Buffer word c x h = observed_no_pending_keeps (λ y. (y.buffer ≡ Some word) × (y.pending ≡ None)) c x h.1 h
 stands_on Returned word c x h = h
 
+stands_given : (s : Standing) (word : ℕ) (x : Target) → ObservedStands s word x
+    → ObservedStands s word (record x { write_error = true; pending = None })
+stands_given Buffer word x h = (h.0, refl)
+stands_given Returned word x h = h
+
 -- the word of an older read stands where it stood after a possible completion
 pub observed_stands_stays : (s : Standing) (word : ℕ) (a b : Port) → PortCompletes a b → ObservedStands s word a.target
     → ObservedStands s word b.target
 observed_stands_stays s word a b (inl e) h = subst (λ p. ObservedStands s word p.target) (sym e) h
 observed_stands_stays s word a b (inr (c, choice, e)) h =
     subst (λ p. ObservedStands s word p.target) (sym e) (stands_on s word c a.target h)
+
+-- the word of an older read stands where it stood when the next request comes
+pub observed_stands_before : (s : Standing) (word : ℕ) (q : Request) (a b : Port) → ObservedBefore q a b
+    → ObservedStands s word a.target → ObservedStands s word b.target
+observed_stands_before s word q a b (c, mark, first, inl e) h =
+    subst (λ p. ObservedStands s word p.target) (sym e) (observed_stands_stays s word a c first h)
+observed_stands_before s word q a b (c, mark, first, inr gave) h =
+    subst (λ p. ObservedStands s word p.target) (sym gave.after)
+    (stands_given s word c.target (observed_stands_stays s word a c first h))
 
 pub observed_stands_passed : (s : Standing) (word : ℕ) (a b : Port) → PortPasses a b → ObservedStands s word a.target
     → ObservedStands s word b.target
@@ -142,19 +159,21 @@ observed_stands_taken s word a b bits (c, d, first, now, last) h = observed_stan
 
 stands_waited : (s : Standing) (word : ℕ) (q : Request) (a b : Port) → PortAsks a q 2 b → ObservedStands s word a.target
     → ObservedStands s word b.target
-stands_waited s word q a b (c, d, mark, choice, first, now, last) h =
+stands_waited s word q a b (e, c, d, mark, choice, first, kept, now, last) h =
     let is : port_reply mark c.target q ≡ Waits = observed_wait_reply mark (port_reply mark c.target q) now.sees in
     let after = told_reply mark choice Waits (port_register c.target.select q) c q 2 d is refl now in
     observed_stands_stays s word d b last (subst (ObservedStands s word) (sym (ap (λ p. p.target) after.after))
-    (observed_stands_same s word c.target _ refl refl refl (observed_stands_stays s word a c first h)))
+    (observed_stands_same s word c.target _ refl refl refl
+    (observed_stands_before s word q a c (e, mark, first, kept) h)))
 
 stands_faulted : (s : Standing) (word : ℕ) (q : Request) (a b : Port) → PortAsks a q 4 b
     → ObservedStands s word a.target → ObservedStands s word b.target
-stands_faulted s word q a b (c, d, mark, choice, first, now, last) h =
+stands_faulted s word q a b (e, c, d, mark, choice, first, kept, now, last) h =
     let is : port_reply mark c.target q ≡ Faults = observed_fault_reply mark (port_reply mark c.target q) now.sees in
     let after = told_reply mark choice Faults (port_register c.target.select q) c q 4 d is refl now in
     observed_stands_stays s word d b last (subst (ObservedStands s word) (sym (ap (λ p. p.target) after.after))
-    (observed_stands_same s word c.target _ refl refl refl (observed_stands_stays s word a c first h)))
+    (observed_stands_same s word c.target _ refl refl refl
+    (observed_stands_before s word q a c (e, mark, first, kept) h)))
 
 -- what is known, of an older read, too, is true after a possible completion
 pub observer_watches_stay : (E : List Transfer → Type 0) (o : Observer) (s t : Port) → PortCompletes s t

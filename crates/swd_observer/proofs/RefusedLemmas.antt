@@ -15,10 +15,11 @@ use Rattle.swd_port.proofs.RequestLaws.{port_replied}
 use Rattle.swd_observer.specs.declared.observer.Observer.{Observer}
 use Rattle.swd_observer.specs.declared.observer.StartedTransfer.{StartedTransfer}
 use Rattle.swd_observer.specs.Observing.{observer_arrival}
-use Rattle.swd_observer.specs.Knows.{ObservedCalm, ObservedFlying, owed, gone, failed, ObservedFlight, ObserverHolds}
-use Rattle.swd_observer.specs.Knows.{ObserverKnows, here, spoiled}
+use Rattle.swd_observer.specs.Knows.{ObservedCalm, ObservedFlying, owed, gone, failed, given_up, ObservedFlight}
+use Rattle.swd_observer.specs.Knows.{ObserverHolds, ObserverKnows, here, spoiled}
 use Rattle.swd_observer.proofs.AskLemmas.{observed_reply_seen}
 use Rattle.swd_observer.proofs.KnownLemmas.{observer_knows_stays}
+use Rattle.swd_observer.proofs.GivenUpLemmas.{observer_knows_before}
 
 -- where the host sees WAIT the target answered WAIT
 pub observed_wait_reply : (mark : Mark) (reply : Reply) → PortSees mark reply 2 → reply ≡ Waits
@@ -51,6 +52,7 @@ flies_refused E b increments tar v u x off (owed calm drw pending of at e) =
 flies_refused E b increments tar v u x off (gone calm none t log fits is e buffer next) =
     gone (calm_refused v u x off calm) none t log fits is e buffer next
 flies_refused E b increments tar v u x off (failed none error e) = failed none (rw error refl) e
+flies_refused E b increments tar v u x off (given_up none error at e) = given_up none error at e
 
 flight_refused : (E : List Transfer → Type 0) (b : Option StartedTransfer) (increments : Option Bool) (tar : Option ℕ)
     (v u : Bool)
@@ -121,11 +123,13 @@ fault_now E o q mark c s t h k =
 -- what is known is true after a request at which WAIT is seen, and its turnaround
 pub observer_knows_wait : (E : List Transfer → Type 0) (o : Observer) (q : Request) (s a t : Port) → PortAsks s q 2 a
     → PortPasses a t → ObserverKnows E o s.target → ObserverKnows E o t.target
-observer_knows_wait E o q s d t (a, b, mark, c, first, now, last) passes k = passed E o d t passes
-    (observer_knows_stays E o b d last (wait_now E o q mark c a b now (observer_knows_stays E o s a first k)))
+observer_knows_wait E o q s d t (a, e, b, mark, c, first, kept, now, last) passes k = passed E o d t passes
+    (observer_knows_stays E o b d last (wait_now E o q mark c e b now
+    (observer_knows_before E o q s e (a, mark, first, kept) k)))
 
 -- what is known is true after a request at which FAULT is seen, and its turnaround
 pub observer_knows_fault : (E : List Transfer → Type 0) (o : Observer) (q : Request) (s a t : Port) → PortAsks s q 4 a
     → PortPasses a t → ObserverKnows E o s.target → ObserverKnows E o t.target
-observer_knows_fault E o q s d t (a, b, mark, c, first, now, last) passes k = passed E o d t passes
-    (observer_knows_stays E o b d last (fault_now E o q mark c a b now (observer_knows_stays E o s a first k)))
+observer_knows_fault E o q s d t (a, e, b, mark, c, first, kept, now, last) passes k = passed E o d t passes
+    (observer_knows_stays E o b d last (fault_now E o q mark c e b now
+    (observer_knows_before E o q s e (a, mark, first, kept) k)))

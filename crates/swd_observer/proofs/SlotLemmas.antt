@@ -41,7 +41,8 @@ use Rattle.swd_observer.specs.Observing.{is_observed_posted_read, is_observed_re
 use Rattle.swd_observer.specs.Observing.{is_observed_plain, observed_older_slot, observed_older_slot_at, observed_class}
 use Rattle.swd_observer.specs.Observing.{Confirms}
 use Rattle.swd_observer.specs.Explained.{ObservedSince, one_observed}
-use Rattle.swd_observer.specs.Knows.{ObservedFlying, owed, gone, failed, ObservedFlight, ObserverKnows, here, spoiled}
+use Rattle.swd_observer.specs.Knows.{ObservedFlying, owed, gone, failed, given_up, ObservedFlight, ObserverKnows}
+use Rattle.swd_observer.specs.Knows.{here, spoiled}
 use Rattle.swd_observer.specs.Knows.{IsObservedOlder, ObservedStands, ObserverAwaits}
 use Rattle.swd_observer.specs.Laws.{ObserverAtOkay}
 use Rattle.swd_observer.specs.Transacts.{ObservedHasMoved, ObservedMoves}
@@ -56,6 +57,8 @@ use Rattle.swd_observer.proofs.StepLemmas.{observed_read_word, observed_line_at_
 use Rattle.swd_observer.proofs.StepLemmas.{observed_read_phase_keeps, observed_other_bank}
 use Rattle.swd_observer.proofs.NotedLemmas.{observer_older_noted}
 use Rattle.swd_observer.proofs.OlderLemmas.{observer_older_flushed, observed_stands_stays, observed_stands_taken}
+use Rattle.swd_observer.proofs.OlderLemmas.{observed_stands_before}
+use Rattle.swd_observer.proofs.GivenUpLemmas.{ObservedBefore, observer_knows_before}
 use Rattle.swd_observer.proofs.AnyLemmas.{observer_okay_moved}
 
 -- which request it is
@@ -171,7 +174,7 @@ record ReadBy (q : Request) (word : ℕ) (ok : Bool) (s d : Port) : Type 0 where
   at : Port
   after : Port
   choice : Choice
-  first : PortCompletes s at
+  first : ObservedBefore q s at
   last : PortCompletes after d
   gave : IfSome (word_observed ok word) (λ v. port_value_in choice (port_register at.target.select q) at.target
       ≡ v)
@@ -182,7 +185,7 @@ record ReadBy (q : Request) (word : ℕ) (ok : Bool) (s d : Port) : Type 0 where
 
 read_by : (q : Request) (word : ℕ) (ok : Bool) (s d t : Port) (bits : ℕ) → q.read ≡ true → PortAsks s q 1 d
     → bits < 2 ^ 33 → data_phase_word bits ≡ word_observed ok word → PortTakes d bits t → ReadBy q word ok s d
-read_by q word ok s d t bits reads (a, b, mark, c, first, now, last) range carries takes =
+read_by q word ok s d t bits reads (e, a, b, mark, c, first, kept, now, last) range carries takes =
     let h : ObservedOkayed a q b = observed_ask_okayed mark c a q b now in
     let value = port_value_in h.choice (port_register a.target.select q) a.target in
     let line : d.link.line ≡ Drives (port_flipped h.flip (data_phase_number value)) =
@@ -193,7 +196,7 @@ read_by q word ok s d t bits reads (a, b, mark, c, first, now, last) range carri
       at = a;
       after = b;
       choice = h.choice;
-      first = first;
+      first = (e, mark, first, kept);
       last = last;
       gave = observed_read_word h.flip value bits word ok got carries;
       target = h.target;
@@ -213,7 +216,7 @@ right_posted q word ok s t held h stands e =
     let reads = (posted_is s.target.select q e).1 in
     let r = read_by q word ok s h.asked t h.bits reads h.asks h.range h.carries
     (takes_of q.read h.asked h.bits t reads h.moves) in
-    let there : ObservedStands Buffer held r.at.target = observed_stands_stays Buffer held s r.at r.first stands in
+    let there : ObservedStands Buffer held r.at.target = observed_stands_before Buffer held q s r.at r.first stands in
     word_is (word_observed ok word) held _
     (observed_posted_value r.at.target.select q r.choice r.at.target e ∙ ap (λ b. unwrap_or b r.choice.filler) there.0)
     r.gave
@@ -225,7 +228,8 @@ right_resent q word ok s t held h stands e =
     let reads = (resend_is s.target.select q e).1 in
     let r = read_by q word ok s h.asked t h.bits reads h.asks h.range h.carries
     (takes_of q.read h.asked h.bits t reads h.moves) in
-    let there : ObservedStands Returned held r.at.target = observed_stands_stays Returned held s r.at r.first stands in
+    let there : ObservedStands Returned held r.at.target =
+    observed_stands_before Returned held q s r.at r.first stands in
     word_is (word_observed ok word) held _
     (ap (λ z. port_value_in r.choice z r.at.target) (resend_is r.at.target.select q e).0
     ∙ ap (λ b. unwrap_or b r.choice.filler) there) r.gave
@@ -262,6 +266,7 @@ settle_into E h b o x is reads addr quiet intact none (here clean k) =
         → (word : ℕ) × (x.buffer ≡ Some word) × ObservedSettled (IsObservedOlder E h word) (observer_confirmed o) x
     landed (owed calm drw pending of at e) = absurd (let clash : Some drw ≡ None = sym pending ∙ none in cc)
     landed (failed rest error e) = absurd (let clash : true ≡ false = sym error ∙ quiet in cc)
+    landed (given_up rest error at e) = absurd (let clash : true ≡ false = sym error ∙ intact in cc)
     landed (gone calm rest t log fits is_log e buffer next) = (
       t.word,
       buffer reads,
@@ -344,7 +349,7 @@ fill E h o q word ok place s t is tells m k =
     let reads : q.read ≡ true = reads_by q _ f.standing s.target.select by in
     let takes : PortTakes m.asked m.bits t = takes_of q.read m.asked m.bits t reads m.moves in
     let r = read_by q word ok s m.asked t m.bits reads m.asks m.range m.carries takes in
-    let known = observer_knows_stays E o s r.at r.first k in
+    let known = observer_knows_before E o q s r.at r.first k in
     let plainly : is_exempt_register (port_register r.at.target.select q) ≡ false =
     observed_not_exempt o r.at.target.select q tells (observed_other_bank E o r.at.target known) in
     let clear = r.clear plainly in

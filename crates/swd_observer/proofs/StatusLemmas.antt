@@ -1,6 +1,6 @@
 -- CTRL/STAT was read: its flags tell what came of the write and of the transfer.
-use Rattle.std.proofs.Common.{◌≡◌, ◌<◌, ◌^◌, ℕ, Bool, true, false, List, [], ◌∷◌, ◌++◌, refl, sym, ap, subst, ◌∙◌}
-use Rattle.std.proofs.Common.{append-nil}
+use Rattle.std.proofs.Common.{◌≡◌, ◌<◌, ◌^◌, ℕ, Bool, true, false, List, ◌++◌, refl, sym, ap, subst, ◌∙◌}
+use Rattle.std.proofs.Common.{append-nil, inl}
 use Rattle.std.specs.Prelude.{Option, Some, None, IfSome, if◌then◌else◌, ◌==◌, ◌&&◌}
 use Rattle.swd_bits.specs.declared.request.Request.{Request}
 use Rattle.swd_bits.specs.declared.request.Reg4.{Reg4}
@@ -34,10 +34,12 @@ use Rattle.swd_observer.specs.Observing.{observer_arrival_of, observed_begun, ob
 use Rattle.swd_observer.specs.Observing.{observed_flagged, observed_word_of_begun, word_observed, is_status_observed}
 use Rattle.swd_observer.specs.Observing.{is_observed_bank_0, is_other_bank_observed}
 use Rattle.swd_observer.specs.Explained.{ObservedSince, one_observed}
-use Rattle.swd_observer.specs.Knows.{ObservedCalm, ObservedFlying, owed, gone, failed, ObservedResting, ObservedFlight}
-use Rattle.swd_observer.specs.Knows.{ObserverHolds, ObserverKnows, here, spoiled}
+use Rattle.swd_observer.specs.Knows.{ObservedCalm, ObservedFlying, owed, gone, failed, given_up, ObservedResting}
+use Rattle.swd_observer.specs.Knows.{ObservedFlight, ObserverHolds, ObserverKnows, here, spoiled, IsObservedSent}
 use Rattle.swd_observer.proofs.ExplainLemmas.{observed_since_not}
-use Rattle.swd_observer.proofs.KnownLemmas.{observer_knows_stays, observed_no_pending_keeps, observer_unsent}
+use Rattle.swd_observer.proofs.KnownLemmas.{observer_knows_stays, observer_unsent}
+use Rattle.swd_observer.proofs.OkayLemmas.{observed_rests_by}
+use Rattle.swd_observer.proofs.GivenUpLemmas.{observer_knows_before}
 use Rattle.swd_observer.specs.Transacts.{ObservedMoves}
 use Rattle.swd_observer.specs.Laws.{ObserverAtStatus, observed_list_flushed}
 use Rattle.swd_observer.proofs.NotedLemmas.{observer_older_noted}
@@ -78,7 +80,7 @@ range_lost : (b : Option StartedTransfer) (tar : Option ℕ) → IfSome tar (λ 
 range_lost None tar h = h
 range_lost (Some b) tar h = tt
 
--- with a flag set, a transfer that was begun was a bus error, and that can be only where STICKYERR is set
+-- with a flag set, a transfer that was begun was a bus error, or it is a write that was given up
 flag_rest : (before : List Transfer) (told : List ObservedAccess) (b : Option StartedTransfer)
     (increments : Option Bool) (tar : Option ℕ) (x : Target) → (ObservedCalm x → ⊥)
     → ObservedFlight (ObservedSince before told) b increments tar x
@@ -87,14 +89,12 @@ flag_rest : (before : List Transfer) (told : List ObservedAccess) (b : Option St
 flag_rest before told None increments tar x off h = not_rest before told None tar tar x h
 flag_rest before told (Some b) increments tar x off (owed calm drw pending of at e) = absurd (off calm)
 flag_rest before told (Some b) increments tar x off (gone calm none t log fits is e buffer next) = absurd (off calm)
-flag_rest before told (Some b) increments tar x off (failed none error e) = record {
-  now = observed_since_not before told (undone_told b tar) x.memory.log refl e;
-  later = λ c k. observed_no_pending_keeps (λ y. ObservedSince before (told ++ undone_told b tar ∷ []) y.memory.log) c x
-      none (observed_since_not before told (undone_told b tar) x.memory.log refl e);
-  aimed = tt;
-}
+flag_rest before told (Some b) increments tar x off (failed none error e) =
+    observed_rests_by _ None x tt (observed_since_not before told (undone_told b tar) x.memory.log refl e) none
+flag_rest before told (Some b) increments tar x off (given_up none error at e) =
+    observed_rests_by _ None x tt (observed_since_not before told (undone_told b tar) x.memory.log refl e) none
 
--- and where it is clear there was none
+-- where STICKYERR is clear it can only be a write that was given up, and TAR is where it was
 clear_rest : (before : List Transfer) (told : List ObservedAccess) (b : Option StartedTransfer)
     (increments : Option Bool) (tar : Option ℕ) (x : Target) → (ObservedCalm x → ⊥) → x.sticky_error ≡ false
     → ObservedFlight (ObservedSince before told) b increments tar x
@@ -105,6 +105,8 @@ clear_rest before told (Some b) increments tar x off clear (gone calm none t log
     (off calm)
 clear_rest before told (Some b) increments tar x off clear (failed none error e) =
     absurd (let clash : true ≡ false = sym error ∙ clear in cc)
+clear_rest before told (Some b) increments tar x off clear (given_up none error at e) =
+    observed_rests_by _ tar x at (observed_since_not before told (undone_told b tar) x.memory.log refl e) none
 
 calm_not_sticky : (x : Target) → x.sticky_error ≡ true → ObservedCalm x → ⊥
 calm_not_sticky x e calm = let clash : true ≡ false = sym e ∙ calm.sticky_error in cc
@@ -123,7 +125,7 @@ Dropped before told sticky a o x = ObserverHolds
 
 drop_here : (before : List Transfer) (told : List ObservedAccess) (sticky : Bool) (sent : Option SentWrite)
     (o : Observer) (x : Target)
-    → x.sticky_error ≡ sticky → x.write_error ≡ true → IfSome sent (λ s. x.write_error ≡ false)
+    → x.sticky_error ≡ sticky → x.write_error ≡ true → IfSome sent (IsObservedSent o.begun x)
     → ObserverHolds (ObservedSince before told) (observer_arrival_of sent o) x
     → Dropped before told sticky (observer_arrival_of sent o) o x
 drop_here before told true None o x flag damaged clean h = record {
@@ -139,7 +141,7 @@ drop_here before told false None o x flag damaged clean h = record {
   flight = clear_rest before told o.begun o.increments o.tar x (calm_not_damaged x damaged) flag h.flight;
 }
 drop_here before told sticky (Some s) o x flag damaged clean h =
-    absurd (let clash : true ≡ false = sym damaged ∙ clean in cc)
+    absurd (let clash : true ≡ false = sym damaged ∙ clean.0 in cc)
 
 drop_spoiled : (before : List Transfer) (told : List ObservedAccess) (sticky : Bool) (a o : Observer) (x : Target)
     → o.begun ≡ None → ObserverHolds (ObservedSince before told) (record o { sent = None }) x
@@ -214,6 +216,7 @@ flies_read E b increments tar chosen x (owed calm drw pending of at e) = owed (c
 flies_read E b increments tar chosen x (gone calm none t log fits is e buffer next) =
     gone (calm_read chosen x calm) none t log fits is e buffer next
 flies_read E b increments tar chosen x (failed none error e) = failed none error e
+flies_read E b increments tar chosen x (given_up none error at e) = given_up none error at e
 
 flight_read : (E : List Transfer → Type 0) (b : Option StartedTransfer) (increments : Option Bool) (tar : Option ℕ)
     (chosen : Choice) (x : Target) → ObservedFlight E b increments tar x
@@ -346,10 +349,11 @@ status_step : (before : List Transfer) (told : List ObservedAccess) (o : Observe
     → data_phase_word bits ≡ word_observed ok word
     → PortTakes d bits t → ObserverKnows (ObservedSince before told) o s.target
     → StatusTold before told o word (ok && is_status_observed o) t.target
-status_step before told o q word ok s d t bits is (a, b, mark, c, first, now, last) range carries takes k =
+status_step before told o q word ok s d t bits is (a, e, b, mark, c, first, kept, now, last) range carries takes k =
     observed_read_phase_keeps (StatusTold before told o word (ok && is_status_observed o))
     (λ x y e z. observer_knows_stays _ _ x y e z) d t bits takes
-    (status_asked before told o q word ok s a b d t mark c bits is first now last range carries takes k)
+    (status_asked before told o q word ok e e b d t mark c bits is (inl refl) now last range carries takes
+    (observer_knows_before _ o q s e (a, mark, first, kept) k))
 
 -- after a CTRL/STAT read what is known is true: its flags show whether the write and the transfer failed, if its
 -- parity is right and DPBANKSEL is known to be 0

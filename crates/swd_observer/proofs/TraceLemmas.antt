@@ -9,10 +9,11 @@ use Rattle.swd_observer.specs.Observing.{observed_last_accesses}
 use Rattle.swd_observer.specs.Explained.{and_observed}
 use Rattle.swd_observer.specs.Runs.{ObservedEvent, Moves, Lifts, Accounted, observed_in_events, observer_after}
 use Rattle.swd_observer.specs.Traces.{trace_observer_made, trace_observer_unknown, trace_observer_step}
+use Rattle.swd_observer.specs.Traces.{trace_observer_resting}
 use Rattle.swd_observer.specs.Traces.{trace_observer_after, observed_trace_from, observed_in_trace, is_observed_gapless}
 use Rattle.swd_observer.specs.Traces.{observed_moves_in, observed_moves_of, ObservedTraceAccounted}
-use Rattle.swd_observer.specs.AnyTraces.{ObservedAnyTraceAccounted}
-use Rattle.swd_observer.proofs.ObservedLemmas.{observed_any_accounted, observed_made_accounted}
+use Rattle.swd_observer.specs.AnyTraces.{ObservedAnyTraceAccounted, ObservedRestTraceAccounted}
+use Rattle.swd_observer.proofs.ObservedLemmas.{observed_any_accounted, observed_made_accounted, observed_rest_accounted}
 
 -- ones and zeros tell nothing
 told_moves : (events : List ObservedEvent) (told : List ObservedAccess) (o : _)
@@ -89,3 +90,9 @@ pub observed_any_trace_accounted : ObservedAnyTraceAccounted
 observed_any_trace_accounted items events s t settled idle runs whole same =
     subst (λ l. Accounted s.target.memory.log l t) (sym (told_as_run items events trace_observer_unknown whole same))
     (observed_any_accounted events s t settled idle runs)
+
+-- and by one of a target at rest, from such a state
+pub observed_rest_trace_accounted : ObservedRestTraceAccounted
+observed_rest_trace_accounted items events s t rests runs whole same =
+    subst (λ l. Accounted s.target.memory.log l t) (sym (told_as_run items events trace_observer_resting whole same))
+    (observed_rest_accounted events s t rests runs)

@@ -57,6 +57,17 @@ observer_as_made = record {
   older = None;
 }
 
+-- a target at rest: SELECT is 0, nothing is in flight, and all else is unknown
+abbrev pub observer_at_rest : Observer
+observer_at_rest = record {
+  select = Some port_select_zero;
+  increments = None;
+  tar = None;
+  sent = None;
+  begun = None;
+  older = None;
+}
+
 -- the registers once a write arrived: SELECT, AddrInc of CSW, TAR; a DRW write starts its transfer at TAR
 abbrev pub observed_select_sent : Written → Option ℕ → Option Select → Option Select
 observed_select_sent ToSelect word old = option_map select_of word
@@ -180,6 +191,11 @@ observed_last_accesses o = record { older = observed_older None o.older; before 
 abbrev pub is_observed_to_select : Written → Bool
 is_observed_to_select ToSelect = true
 is_observed_to_select w = false
+
+-- the write is to DRW
+abbrev pub is_observed_to_drw : Written → Bool
+is_observed_to_drw ToDrw = true
+is_observed_to_drw w = false
 
 abbrev pub is_observed_select_sent : Option SentWrite → Bool
 is_observed_select_sent None = false

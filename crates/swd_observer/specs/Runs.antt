@@ -1,9 +1,9 @@
 -- Runs of the port model, and what an observer of their wire reports: the theorem.
-use Rattle.std.specs.Prelude.{ℕ, ◌≡◌, true, false, List, [], ◌∷◌, None}
+use Rattle.std.specs.Prelude.{ℕ, ◌≡◌, ◌==◌, true, false, List, [], ◌∷◌, None}
 use Rattle.swd_bits.specs.declared.tx.Tx.{Tx}
 use Rattle.swd_port.specs.declared.access.Transfer.{Transfer}
 use Rattle.swd_port.specs.Bus.{Bus}
-use Rattle.swd_port.specs.Port.{Port}
+use Rattle.swd_port.specs.Port.{Port, port_selects_mem_ap}
 use Rattle.swd_port.specs.Made.{port_made}
 use Rattle.swd_port.specs.Choices.{Choice, IsPortChoice}
 use Rattle.swd_port.specs.Completion.{port_completed}
@@ -11,7 +11,7 @@ use Rattle.swd_port.specs.Leading.{PortLeads, port_line_awaits}
 use Rattle.swd_observer.specs.declared.told.ObservedAccess.{ObservedAccess}
 use Rattle.swd_observer.specs.declared.observer.Observer.{Observer}
 use Rattle.swd_observer.specs.Observing.{observer_after_tx_end, observed_at_tx_end, observed_last_accesses}
-use Rattle.swd_observer.specs.Observing.{observer_unknown, observer_as_made}
+use Rattle.swd_observer.specs.Observing.{observer_unknown, observer_as_made, observer_at_rest}
 use Rattle.swd_observer.specs.Explained.{ObservedSince, and_observed}
 use Rattle.swd_observer.specs.Knows.{ObserverWatches}
 use Rattle.swd_observer.specs.Transacts.{ObservedTransacts}
@@ -73,6 +73,18 @@ ObservedMadeAccounted = (identification : ℕ) (m : Bus) (events : List Observed
     ObservedRuns events (port_made identification m) t →
     Accounted m.log (and_observed (observed_in_events events [] observer_as_made)
     (observed_last_accesses (observer_after events observer_as_made))) t
+
+-- from a target at rest: SELECT names bank 0 of access port 0 and DPBANKSEL 0, nothing is pending, and no data is due,
+pub record IsObservedAtRest (s : Port) : Type 0 where
+  pub mem_ap : port_selects_mem_ap s.target.select ≡ true
+  pub bank0 : (s.target.select.dpbanksel == 0) ≡ true
+  pub pending : s.target.pending ≡ None
+  pub idle : port_line_awaits s.link.line ≡ false
+
+abbrev pub ObservedRestAccounted : Type 0
+ObservedRestAccounted = (events : List ObservedEvent) (s t : Port) → IsObservedAtRest s → ObservedRuns events s t
+    → Accounted s.target.memory.log (and_observed (observed_in_events events [] observer_at_rest)
+    (observed_last_accesses (observer_after events observer_at_rest))) t
 
 -- and of a capture that begins anywhere, if nothing is pending and no data is due
 abbrev pub ObservedAnyAccounted : Type 0

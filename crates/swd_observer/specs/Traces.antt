@@ -11,8 +11,10 @@ use Rattle.swd_port.specs.Made.{port_made}
 use Rattle.swd_observer.specs.declared.told.ObservedAccess.{ObservedAccess}
 use Rattle.swd_observer.specs.declared.trace.TraceObserver.{TraceObserver}
 use Rattle.swd_observer.specs.declared.trace.ShownItem.{ShownItem}
+use Rattle.swd_observer.specs.declared.trace.TraceStart.{TraceStart}
+use Rattle.swd_observer.specs.declared.trace.TraceStart.TheVariants.{Any, Rest, Made}
 use Rattle.swd_observer.specs.Observing.{observer_after_item, observed_at_item, observer_unknown, observer_as_made}
-use Rattle.swd_observer.specs.Observing.{observed_last_accesses}
+use Rattle.swd_observer.specs.Observing.{observer_at_rest, observed_last_accesses}
 use Rattle.swd_observer.specs.Explained.{and_observed}
 use Rattle.swd_observer.specs.Runs.{ObservedEvent, Moves, Lifts, ObservedRuns, Accounted}
 
@@ -48,6 +50,15 @@ trace_observer_unknown = record { observer = observer_unknown; place = 0; in_gap
 
 abbrev pub trace_observer_made : TraceObserver
 trace_observer_made = record { observer = observer_as_made; place = 0; in_gap = false }
+
+abbrev pub trace_observer_resting : TraceObserver
+trace_observer_resting = record { observer = observer_at_rest; place = 0; in_gap = false }
+
+-- by what is known before the first item
+abbrev pub trace_observer_from : TraceStart → TraceObserver
+trace_observer_from Any = trace_observer_unknown
+trace_observer_from Rest = trace_observer_resting
+trace_observer_from Made = trace_observer_made
 
 abbrev pub trace_observer_step : Item → TraceObserver → TraceObserver
 trace_observer_step item t = record {

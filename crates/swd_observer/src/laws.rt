@@ -3,9 +3,10 @@ ghost use Rattle.swd_observer.specs.Laws.{ObserverAtCompletion, ObserverAtWait, 
 ghost use Rattle.swd_observer.specs.Laws.{ObserverAtAbort};
 ghost use Rattle.swd_observer.specs.Laws.{ObserverAtDpidr, ObserverAtLost, ObserverAtStatus, ObserverAlways};
 ghost use Rattle.swd_observer.specs.Runs.{ObservedRunsAccounted, ObservedMadeAccounted, ObservedAnyAccounted};
+ghost use Rattle.swd_observer.specs.Runs.{ObservedRestAccounted};
 ghost use Rattle.swd_observer.specs.Sure.{ObservedClearIsSure};
 ghost use Rattle.swd_observer.specs.Traces.{ObservedTraceAccounted};
-ghost use Rattle.swd_observer.specs.AnyTraces.{ObservedAnyTraceAccounted};
+ghost use Rattle.swd_observer.specs.AnyTraces.{ObservedAnyTraceAccounted, ObservedRestTraceAccounted};
 
 /// States that what is known remains true whenever a pending transfer takes effect.
 pub fn completion()
@@ -24,9 +25,9 @@ pub fn confirmations()
     ensures { ObserverAtOkay }
 {}
 
-/// States what the requests show that are never refused. A read of DPIDR shows nothing. After a write of
-/// ABORT the transfer in flight is reported as `May`. A read of CTRL/STAT shows whether the transfer met an error, if
-/// its parity is right and DPBANKSEL is known to be 0.
+/// States what the requests show that are never refused, before which a pending write may be given up. A read of DPIDR
+/// shows nothing. After a write of ABORT the transfer in flight is reported as `May`. A read of CTRL/STAT shows whether
+/// the transfer met an error or was given up, if its parity is right and DPBANKSEL is known to be 0.
 pub fn exempt_requests()
     ensures dpidr { ObserverAtDpidr }
     ensures abort { ObserverAtAbort }
@@ -49,7 +50,7 @@ pub fn transactions()
 /// was logged once or not at all.
 ///
 /// Such a state is a target's reset state. For an observer that knows nothing, it is any state without a
-/// pending transfer and without a data phase due.
+/// pending transfer and without a data phase due. For one that knows that the target is at rest, SELECT is 0 too.
 ///
 /// Before `last`, nothing is reported as `May` if all of these hold: every transaction was acknowledged,
 /// SELECT is known, ABORT is written only where no transfer is in flight, so after FAULT only once CTRL/STAT was read,
@@ -57,6 +58,7 @@ pub fn transactions()
 pub fn observed_runs()
     ensures runs { ObservedRunsAccounted }
     ensures made { ObservedMadeAccounted }
+    ensures rest { ObservedRestAccounted }
     ensures any { ObservedAnyAccounted }
     ensures sure { ObservedClearIsSure }
 {}
@@ -64,8 +66,10 @@ pub fn observed_runs()
 /// States the theorem of a trace without junk bits or a cut end. If its transactions are those of a run, the
 /// reported accesses, with those of `last`, are those that the memory logged in that run, as in
 /// `observed_runs`. The run starts in the target's reset state, or for an observer that knows nothing, in any
-/// state without a pending transfer in which no write data is awaited.
+/// state without a pending transfer in which no write data is awaited, or for one of a target at rest, in such a state
+/// with SELECT 0.
 pub fn observed_traces()
     ensures made { ObservedTraceAccounted }
+    ensures rest { ObservedRestTraceAccounted }
     ensures any { ObservedAnyTraceAccounted }
 {}

@@ -27,4 +27,4 @@ mod trace;
 
 pub use observer::{Observations, Observer, Older, SentWrite, Standing, StartedTransfer, Written};
 pub use told::{How, ObservedAccess};
-pub use trace::{ShownItem, TraceObserver};
+pub use trace::{ShownItem, TraceObserver, TraceStart};

@@ -2,7 +2,7 @@
 ghost use Rattle.std.specs.Prelude.{◌≡◌, ◌&&◌, Some, None, is_some, if◌then◌else◌};
 ghost use Rattle.swd_observer.specs.declared.told.How.TheVariants.{Took};
 ghost use Rattle.swd_port.specs.Registers.{register_bit};
-ghost use Rattle.swd_observer.specs.Observing.{observer_unknown, observer_as_made, observer_arrival};
+ghost use Rattle.swd_observer.specs.Observing.{observer_unknown, observer_as_made, observer_at_rest, observer_arrival};
 ghost use Rattle.swd_observer.specs.Observing.{observed_tar_advance, observer_confirmed, observer_doubted};
 ghost use Rattle.swd_observer.specs.Observing.{observer_transfer_undone, observed_flight_access, observed_older};
 ghost use Rattle.swd_observer.specs.Observing.{observed_doubt, observed_last_accesses, observed_older_flush};
@@ -81,6 +81,11 @@ pub struct Older {
 /// transfer in flight took effect. An access is therefore reported at a later request. CTRL/STAT with STICKYERR or
 /// WDATAERR set shows that the transfer didn't succeed. WAIT shows nothing, and neither does FAULT, which may come of
 /// STICKYORUN.
+///
+/// A debug port may give up a write that it accepted, where DPIDR or CTRL/STAT is read or ABORT is written: these can't
+/// wait for it. WDATAERR is set then, so a later OK to a request that can be refused shows that the port didn't. It
+/// shows less of a port that, unlike the model, accepts a DRW write while another one is pending: the one before may
+/// still be given up or meet a bus error, and is reported as `Took`.
 ///
 /// It reports nothing that the wire doesn't show. These are unknown:
 /// - TAR after an increment across a boundary of 1 KB;
@@ -173,6 +178,17 @@ impl Observer {
             sent: None,
             begun: None,
             older: None,
+        }
+    }
+
+    /// Returns an observer of a target at rest: SELECT is 0, no transfer is pending, and no data phase is due. All else
+    /// is unknown.
+    pub fn of_rest() -> Observer
+        ensures { result ≡ observer_at_rest }
+    {
+        Observer {
+            select: Some(Select::of(0)),
+            ..Observer::new()
         }
     }
 

@@ -8,7 +8,7 @@ pub enum How {
     /// It took effect once, or not at all: the wire doesn't show which.
     May,
     /// It isn't in the target's log: it met a bus error, which a plain memory isn't changed by, or its data was
-    /// corrupted on the wire, and it was never made.
+    /// corrupted on the wire or given up by the debug port, and it was never made.
     Not,
 }
 

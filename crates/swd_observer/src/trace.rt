@@ -2,11 +2,23 @@
 ghost use Rattle.std.specs.Prelude.{◌≡◌, not, Some, None};
 ghost use Rattle.swd_observer.specs.Traces.{observed_item_len, is_observed_gap, trace_observer_unknown};
 ghost use Rattle.swd_observer.specs.Traces.{trace_observer_made, trace_observer_step, observed_shown_at};
+ghost use Rattle.swd_observer.specs.Traces.{trace_observer_resting, trace_observer_from};
 ghost use Rattle.swd_observer.specs.Observing.{observed_last_accesses};
 
 use crate::observer::{Observations, Observer};
 use swd_bits::{MOVED_BITS, REFUSED_BITS, SWITCH_BITS, TxEnd, UNACKNOWLEDGED_BITS};
 use swd_trace::Item;
+
+/// What is known of a target before the first item of its trace.
+#[derive(Clone, Copy, Debug, PartialEq, Eq)]
+pub enum TraceStart {
+    /// Nothing.
+    Any,
+    /// It is at rest: SELECT is 0, no transfer is pending, and no data phase is due. All else is unknown.
+    Rest,
+    /// It is in its reset state.
+    Made,
+}
 
 /// What an item of a trace shows, in this order.
 #[derive(Clone, Copy, Debug, PartialEq, Eq)]
@@ -55,6 +67,29 @@ impl TraceObserver {
             observer: Observer::of_made(),
             place: 0,
             in_gap: false,
+        }
+    }
+
+    /// Returns an observer for a trace of a target at rest: SELECT is 0, no transfer is pending, and no data phase is
+    /// due. All else is unknown.
+    pub fn of_rest() -> TraceObserver
+        ensures { result ≡ trace_observer_resting }
+    {
+        TraceObserver {
+            observer: Observer::of_rest(),
+            place: 0,
+            in_gap: false,
+        }
+    }
+
+    /// Returns an observer for a trace that begins so.
+    pub fn of(start: TraceStart) -> TraceObserver
+        ensures { result ≡ trace_observer_from start }
+    {
+        match start {
+            TraceStart::Any => TraceObserver::new(),
+            TraceStart::Rest => TraceObserver::of_rest(),
+            TraceStart::Made => TraceObserver::of_made(),
         }
     }
 

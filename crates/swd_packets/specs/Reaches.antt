@@ -9,7 +9,7 @@ use Rattle.swd_dap_probe.specs.Moves.{IsDapMotion}
 use Rattle.swd_dap_probe.specs.Packets.{processor_line}
 use Rattle.swd_dap_probe.proofs.MotionLemmas.{takes_move}
 use Rattle.swd_packets.specs.declared.line.PinsLine.{PinsLine}
-use Rattle.swd_packets.specs.declared.packets.Packets.{Packets}
+use Rattle.swd_packets.specs.declared.packets.SimulatedProbe.{SimulatedProbe}
 use Rattle.swd_packets.specs.Packets.{PacketsStep, keeps, completes, PinsLineClock, PinsLineResets, packets_pins}
 
 -- the pins of a line are reached, however it is moved
@@ -23,7 +23,7 @@ motion bus = record {
 }
 
 -- a byte leads to pins that characters reach too
-pub packets_reach : {D A : Type 0} (bus : D → Bus) (byte : ℕ) (answers : List ℕ) (s t : Packets D A)
+pub packets_reach : {D A : Type 0} (bus : D → Bus) (byte : ℕ) (answers : List ℕ) (s t : SimulatedProbe D A)
     → PacketsStep bus byte answers s t → PinsReach bus (packets_pins s) (packets_pins t)
 packets_reach {D} {A} bus byte answers s t (keeps few frame e is) =
     subst (λ (p : Processor (PinsLine D A)). PinsReach bus (packets_pins s) (processor_line {L = PinsLine D A} p).pins)

@@ -6,4 +6,4 @@ mod line;
 mod packets;
 
 pub use line::PinsLine;
-pub use packets::Packets;
+pub use packets::SimulatedProbe;

@@ -2,7 +2,7 @@
 ghost use Rattle.std.specs.Prelude.{ℕ, ◌≡◌, ◌≤◌, ◌++◌, ◌∷◌, List, [], length, drop};
 ghost use Rattle.swd_io.specs.Blocks.{BlockQueues};
 ghost use Rattle.swd_packets.specs.Packets.{PacketsStep, IsPacketsEnd, PacketsPerform, packets_pins, packet_frame};
-ghost use Rattle.swd_packets.specs.Packets.{packet_told, IsPacketsAtRest};
+ghost use Rattle.swd_packets.specs.Packets.{packet_told, is_packet_cut_off, IsPacketsAtRest};
 ghost use Rattle.swd_packets.specs.Reaches.{packets_reach};
 
 use crate::line::PinsLine;
@@ -19,7 +19,7 @@ const LONGEST_FRAME: usize = LONGEST + 2;
 
 /// A probe at the pins of a simulated target, and what has come of its next packet.
 #[derive(Drop)]
-pub struct Packets<D, A: Allocator = Global> {
+pub struct SimulatedProbe<D, A: Allocator = Global> {
     pub(crate) probe: Processor<PinsLine<D, A>>,
     // The bytes of a packet that isn't whole, its length first.
     pub(crate) frame: ArrayVec<u8, LONGEST_FRAME>,
@@ -52,12 +52,12 @@ fn put_reply<W: Write>(block: &mut Block<'_, W>, reply: &[u8])
     }
 }
 
-impl<D: Device, A: Allocator> Packets<D, A> {
+impl<D: Device, A: Allocator> SimulatedProbe<D, A> {
     /// Returns a probe at these pins, for packets of at most so many bytes, 64 to 512, else the nearest.
-    pub fn new(pins: Pins<D, A>, size: usize) -> Packets<D, A>
+    pub fn new(pins: Pins<D, A>, size: usize) -> SimulatedProbe<D, A>
         ensures { IsPacketsAtRest pins size result }
     {
-        Packets {
+        SimulatedProbe {
             probe: Processor::new(PinsLine { pins }, size),
             frame: ArrayVec::new(),
         }
@@ -67,9 +67,16 @@ impl<D: Device, A: Allocator> Packets<D, A> {
     pub fn into_pins(self) -> Pins<D, A>
         ensures { result ≡ packets_pins self }
     {
-        let Packets { probe, .. } = self;
+        let SimulatedProbe { probe, .. } = self;
         let PinsLine { pins } = probe.into_line();
         pins
+    }
+
+    /// Returns whether a packet has begun that isn't whole: some of its bytes, or of its length, are missing.
+    pub fn is_cut_off(&self) -> bool
+        ensures { result ≡ is_packet_cut_off self.now }
+    {
+        !self.frame.is_empty()
     }
 
     // Performs the packet that is whole, and queues its reply.
@@ -86,7 +93,7 @@ impl<D: Device, A: Allocator> Packets<D, A> {
     }
 }
 
-impl<D: Device, A: Allocator> Protocol<D, A> for Packets<D, A> {
+impl<D: Device, A: Allocator> Protocol<D, A> for SimulatedProbe<D, A> {
     ghost pins_of = { packets_pins };
 
     ghost step = { PacketsStep D.bus };

@@ -6,7 +6,7 @@ use std::test::Fail;
 use swd_bitbang::{Pins, Served, Trace};
 use swd_clocked::FaultyClocked;
 use swd_ends::serve_logged;
-use swd_packets::Packets;
+use swd_packets::SimulatedProbe;
 use swd_target::{Memory, Quirks};
 
 const QUIRKS: Quirks = Quirks {
@@ -52,7 +52,7 @@ fn served<R: Abort>(
 ) -> Result<(), Fail> {
     let memory = Memory::new(alloc, 0x2000_0000, 16, 16)?;
     let target = FaultyClocked::new(memory, QUIRKS, Vec::new(alloc));
-    let probe = Packets::new(Pins::new(target, Trace::none(alloc)), 64);
+    let probe = SimulatedProbe::new(Pins::new(target, Trace::none(alloc)), 64);
     let (mut input, mut output) = (asked, Vec::new(alloc));
     let (served, probe, files) = serve_logged(
         &mut input,

@@ -5,6 +5,7 @@ use Rattle.swd_text.specs.declared.fault.DecodeFault.{DecodeFault}
 use Rattle.swd_text.specs.declared.fault.DecodeFault.TheVariants.{Text, Read, Write}
 use Rattle.swd_capture.specs.declared.printed.Printed.{Printed}
 use Rattle.swd_capture.specs.declared.printed.Printed.TheVariants.{Lines, Accesses}
+use Rattle.swd_observer.specs.declared.trace.TraceStart.TheVariants.{Any, Made}
 use Rattle.swd_capture_text.specs.declared.reading.Reading.{Reading}
 use Rattle.swd_capture_text.specs.declared.reading.Reading.TheVariants.{Trace, Capture}
 use Rattle.swd_page.specs.declared.page.SwdPage.{SwdPage}
@@ -20,7 +21,7 @@ page_reading number = if number == 0 then Trace else if number == 1 then Capture
 -- what is printed of it
 abbrev pub page_printed : ℕ → Printed
 page_printed number = if number == 0 then Lines (record { places = true; names = false })
-    else if number == 1 then Accesses false else Accesses true
+    else if number == 1 then Accesses Any else Accesses Made
 
 -- how its text ended
 abbrev pub page_outcome : ℕ → ℕ → Result (Unit {0}) DecodeFault

@@ -6,6 +6,7 @@ ghost use Rattle.swd_page.specs.Pages.{page_outcome, page_printed, page_reading,
 use crate::page::SwdPage;
 use swd_capture::{LineForm, Printed};
 use swd_capture_text::{Reading, print_capture};
+use swd_observer::TraceStart;
 use swd_text::{DecodeFault, TextFault};
 
 // Returns how a trace file is read.
@@ -28,8 +29,12 @@ fn printed_of(number: u8) -> Printed
             places: true,
             names: false,
         }),
-        1 => Printed::Accesses { made: false },
-        _ => Printed::Accesses { made: true },
+        1 => Printed::Accesses {
+            start: TraceStart::Any,
+        },
+        _ => Printed::Accesses {
+            start: TraceStart::Made,
+        },
     }
 }
 

@@ -1,4 +1,5 @@
 -- Laws of every call, whatever the state: what is due after it, and the numbers.
+use Rattle.std.proofs.Common.{true}
 use Rattle.std.proofs.Common.{◌≡◌, ◌≢◌, ◌+◌, ◌≤◌, ℕ, false, refl, sym, ap, subst, inl, inr, arith, ◌∙◌}
 use Rattle.std.specs.Prelude.{◌==◌}
 use Rattle.swd_bits.specs.declared.ack.Ack.{Ack}
@@ -15,6 +16,7 @@ use Rattle.swd_port.specs.Completion.{PortCompletes}
 use Rattle.swd_port.specs.Moves.{PortKept, PortAround}
 use Rattle.swd_port.specs.Outcomes.{PortSteady}
 use Rattle.swd_port.specs.Asking.{PortAsks, PortAsksNow, port_reply, port_tally_after}
+use Rattle.swd_port.specs.Asking.{PortKeepsOrGivesUp, port_without_write}
 use Rattle.swd_port.specs.declared.cue.Cue.TheVariants.{Lead, Ask, Take, Give, Pass}
 use Rattle.swd_port.specs.Leading.{PortLeadsNow}
 use Rattle.swd_port.specs.Moving.{PortTakesNow, PortGivesNow, PortPassesNow}
@@ -76,9 +78,9 @@ due_now (Mute place) c q seen s t now = ap (λ p. p.link.due) now.after
 
 due_after_request : (q : Request) (seen : ℕ) (s t : Port) → PortAsks s q seen t
     → t.link.due ≡ port_due_after q.read seen
-due_after_request q seen s t (a, b, mark, c, first, now, last) =
+due_after_request q seen s t (a, d, b, mark, c, first, kept, now, last) =
     let k : PortKept b t = port_kept b t last in
-    ap (λ l. l.due) k.link ∙ due_now mark c q seen a b now
+    ap (λ l. l.due) k.link ∙ due_now mark c q seen d b now
 
 -- nothing is due after a step that leaves it so
 due_stays : (b t : Port) → b.link.due ≡ Nothing → PortCompletes b t → t.link.due ≡ Nothing
@@ -134,28 +136,92 @@ grows a b n e = omega arith
 grows_one : (a b n : ℕ) → b ≡ a + n → n ≤ 1 → b ≤ a + 1
 grows_one a b n e h = omega arith
 
--- a request raises the count of requests by one, and those of disturbed and of lost ones by at most one; WDATAERR,
--- the power requests, SELECT, CSW, the identification, and power seen as acknowledged are unchanged
+grows_on : (a b d n : ℕ) → b ≡ d + n → a ≤ d → a ≤ b
+grows_on a b d n e h = omega arith
+
+grows_two : (a b d n : ℕ) → b ≡ d + n → n ≤ 1 → d ≤ a + 1 → b ≤ a + 2
+grows_two a b d n e h m = omega arith
+
+-- what is kept where a pending write is given up
+record GivenUpKeeps (s t : Port) : Type 0 where
+  asked : t.tally.asked ≡ s.tally.asked
+  lost : t.tally.lost ≡ s.tally.lost
+  disturbed_least : s.tally.disturbed ≤ t.tally.disturbed
+  disturbed_most : t.tally.disturbed ≤ s.tally.disturbed + 1
+  write_error : s.target.write_error ≡ true → t.target.write_error ≡ true
+  debug_power : t.target.debug_power ≡ s.target.debug_power
+  system_power : t.target.system_power ≡ s.target.system_power
+  debug_up : t.target.debug_up ≡ s.target.debug_up
+  system_up : t.target.system_up ≡ s.target.system_up
+  select : t.target.select ≡ s.target.select
+  increments : t.target.increments ≡ s.target.increments
+  identification : t.target.identification ≡ s.target.identification
+
+given_up_same : (s : Port) → GivenUpKeeps s s
+given_up_same s = record {
+  asked = refl;
+  lost = refl;
+  disturbed_least = omega arith;
+  disturbed_most = omega arith;
+  write_error = λ e. e;
+  debug_power = refl;
+  system_power = refl;
+  debug_up = refl;
+  system_up = refl;
+  select = refl;
+  increments = refl;
+  identification = refl;
+}
+
+given_up_done : (s : Port) → GivenUpKeeps s (port_without_write s)
+given_up_done s = record {
+  asked = refl;
+  lost = refl;
+  disturbed_least = omega arith;
+  disturbed_most = omega arith;
+  write_error = λ e. refl;
+  debug_power = refl;
+  system_power = refl;
+  debug_up = refl;
+  system_up = refl;
+  select = refl;
+  increments = refl;
+  identification = refl;
+}
+
+given_up_keeps : (mark : Mark) (q : Request) (s t : Port) → PortKeepsOrGivesUp mark q s t → GivenUpKeeps s t
+given_up_keeps mark q s t (inl e) = subst (GivenUpKeeps s) (sym e) (given_up_same s)
+given_up_keeps mark q s t (inr g) = subst (GivenUpKeeps s) (sym g.after) (given_up_done s)
+
+-- A request raises the count of requests by one, that of lost ones by at most one, and that of disturbances by at most
+-- two. WDATAERR stays set; the power requests, SELECT, CSW, the identification, and power seen as acknowledged are
+-- unchanged.
 pub port_request_counted : PortRequestCounted
-port_request_counted q seen s t (a, b, mark, c, first, now, last) =
+port_request_counted q seen s t (a, d, b, mark, c, first, kept, now, last) =
     let k : PortKept s a = port_kept s a first in let l : PortKept b t = port_kept b t last in
-    let n : t.tally ≡ port_tally_after mark s.tally = l.tally ∙ ap (λ p. p.tally) now.after
-    ∙ ap (port_tally_after mark) k.tally in
-    let y : PortSteady a.target b.target = port_steady _ _ _ q.ap a.target b.target (ap (λ p. p.target) now.after) in
+    let g : GivenUpKeeps a d = given_up_keeps mark q a d kept in
+    let n : t.tally ≡ port_tally_after mark d.tally = l.tally ∙ ap (λ p. p.tally) now.after in
+    let least : s.tally.disturbed ≤ d.tally.disturbed =
+    subst (λ i. i.disturbed ≤ d.tally.disturbed) k.tally g.disturbed_least in
+    let most : d.tally.disturbed ≤ s.tally.disturbed + 1 =
+    subst (λ i. d.tally.disturbed ≤ i.disturbed + 1) k.tally g.disturbed_most in
+    let lost : t.tally.lost ≡ s.tally.lost + port_loses mark =
+    ap (λ n. n.lost) n ∙ ap (λ n. n + port_loses mark) (g.lost ∙ ap (λ i. i.lost) k.tally) in
+    let y : PortSteady d.target b.target = port_steady _ _ _ q.ap d.target b.target (ap (λ p. p.target) now.after) in
     record {
-      asked = ap (λ n. n.asked) n;
-      disturbed_least = grows _ _ _ (ap (λ n. n.disturbed) n);
-      disturbed_most = grows_one _ _ _ (ap (λ n. n.disturbed) n) (one_disturbed mark);
-      lost_least = grows _ _ _ (ap (λ n. n.lost) n);
-      lost_most = grows_one _ _ _ (ap (λ n. n.lost) n) (one_lost mark);
-      write_error = l.write_error ∙ y.write_error ∙ k.write_error;
-      debug_power = l.debug_power ∙ y.debug_power ∙ k.debug_power;
-      system_power = l.system_power ∙ y.system_power ∙ k.system_power;
-      debug_seen = λ e. l.debug_up ∙ y.debug_seen (k.debug_up ∙ e);
-      system_seen = λ e. l.system_up ∙ y.system_seen (k.system_up ∙ e);
-      select = l.select ∙ y.select ∙ k.select;
-      increments = l.increments ∙ y.increments ∙ k.increments;
-      identification = l.identification ∙ y.identification ∙ k.identification;
+      asked = ap (λ n. n.asked) n ∙ ap (λ n. n + 1) (g.asked ∙ ap (λ i. i.asked) k.tally);
+      disturbed_least = grows_on _ _ _ _ (ap (λ n. n.disturbed) n) least;
+      disturbed_most = grows_two _ _ _ _ (ap (λ n. n.disturbed) n) (one_disturbed mark) most;
+      lost_least = grows _ _ _ lost;
+      lost_most = grows_one _ _ _ lost (one_lost mark);
+      write_error = λ e. l.write_error ∙ y.write_error ∙ g.write_error (k.write_error ∙ e);
+      debug_power = l.debug_power ∙ y.debug_power ∙ g.debug_power ∙ k.debug_power;
+      system_power = l.system_power ∙ y.system_power ∙ g.system_power ∙ k.system_power;
+      debug_seen = λ e. l.debug_up ∙ y.debug_seen (g.debug_up ∙ k.debug_up ∙ e);
+      system_seen = λ e. l.system_up ∙ y.system_seen (g.system_up ∙ k.system_up ∙ e);
+      select = l.select ∙ y.select ∙ g.select ∙ k.select;
+      increments = l.increments ∙ y.increments ∙ g.increments ∙ k.increments;
+      identification = l.identification ∙ y.identification ∙ g.identification ∙ k.identification;
     }
 
 -- no call changes the word that DPIDR returns
@@ -189,6 +255,16 @@ moved_apart Step n s t apart h =
       completed_apart n h.1 t h.4,
     )
 
+given_up_apart : (n : ℕ) (mark : Mark) (q : Request) (s t : Port) → PortKeepsOrGivesUp mark q s t
+    → PortKeepsOrGivesUp mark q (port_with_asked n s) (port_with_asked n t)
+given_up_apart n mark q s t (inl e) = inl (ap (port_with_asked n) e)
+given_up_apart n mark q s t (inr g) = inr (record {
+  exempt = g.exempt;
+  seen = g.seen;
+  write = g.write;
+  after = ap (port_with_asked n) g.after;
+})
+
 -- a step stays one if another number replaces the count of requests; a request still raises it by one, and no other
 -- call does
 pub port_counted_apart : PortCountedApart
@@ -196,20 +272,22 @@ port_counted_apart n (Lead ones undriven switch zeros) seen s t h =
     moved_apart (λ a b. PortLeadsNow a ones b) n s t (λ a b now. record { after = ap (port_with_asked n) now.after }) h
 port_counted_apart n (Ask q) seen s t h = (
   port_with_asked n h.0,
-  port_with_asked (n + 1) h.1,
-  h.2,
+  port_with_asked n h.1,
+  port_with_asked (n + 1) h.2,
   h.3,
-  completed_apart n s h.0 h.4,
+  h.4,
+  completed_apart n s h.0 h.5,
+  given_up_apart n h.3 q h.0 h.1 h.6,
   record {
-    legal = h.5.legal;
-    choice = h.5.choice;
-    late = h.5.late;
-    settled = h.5.settled;
-    word = h.5.word;
-    sees = h.5.sees;
-    after = ap (port_with_asked (n + 1)) h.5.after;
+    legal = h.7.legal;
+    choice = h.7.choice;
+    late = h.7.late;
+    settled = h.7.settled;
+    word = h.7.word;
+    sees = h.7.sees;
+    after = ap (port_with_asked (n + 1)) h.7.after;
   },
-  completed_apart (n + 1) h.1 t h.6,
+  completed_apart (n + 1) h.2 t h.8,
 )
 port_counted_apart n Take seen s t h =
     moved_apart (λ a b. PortTakesNow a seen b) n s t

@@ -11,6 +11,7 @@ use Rattle.swd_port.specs.Choices.{Choice}
 use Rattle.swd_port.specs.Completion.{PortCompletes, port_completed, port_completion, memory_after_pending}
 use Rattle.swd_port.specs.Completion.{pending_access_at, port_tar_next_address}
 use Rattle.swd_port.specs.Becoming.{MayBecome}
+use Rattle.swd_port.specs.Asking.{is_pending_write}
 use Rattle.swd_port.specs.Laws.Completion.{PortMayBecomeOfNone}
 use Rattle.swd_port.specs.Moves.{PortKept, PortWritten}
 use Rattle.swd_port.specs.Outcomes.{PortAccepts}
@@ -318,15 +319,22 @@ memory_same c x y p a e =
 
 -- what the memory may become after a possible completion, it might have become before it
 pub port_may_become_stays : (m : Bus) (s t : Port) → PortCompletes s t → MayBecome t m → MayBecome s m
+unfolding MayBecome
 port_may_become_stays m s t (inl e) h = subst (λ p. MayBecome p m) e h
-port_may_become_stays m s t (inr (c, fits, e)) (d, more, is) =
+port_may_become_stays m s t (inr (c, fits, e)) (inl given) =
+    absurd (let none : is_pending_write t.target.pending ≡ false = ap (λ p. is_pending_write p.target.pending) e in
+    let write : is_pending_write t.target.pending ≡ true = given.0 in cc)
+port_may_become_stays m s t (inr (c, fits, e)) (inr (d, more, is)) =
     let none : t.target.pending ≡ None = ap (λ p. p.target.pending) e in
-    (c, fits, is ∙ ap (λ p. p.target.memory) (no_pending_same_port d t none) ∙ ap (λ p. p.target.memory) e)
+    inr (c, fits, is ∙ ap (λ p. p.target.memory) (no_pending_same_port d t none) ∙ ap (λ p. p.target.memory) e)
 
 -- what the memory may become, it may become in each state with the same pending transfer, TAR and memory
 pub port_may_become_carried : (m : Bus) (s t : Port) → t.target.pending ≡ s.target.pending
     → t.target.tar ≡ s.target.tar → t.target.memory ≡ s.target.memory → MayBecome t m → MayBecome s m
-port_may_become_carried m s t p a e (c, fits, is) = (c, fits, is ∙ memory_same c s.target t.target p a e)
+unfolding MayBecome
+port_may_become_carried m s t p a e (inl given) = inl (ap is_pending_write (sym p) ∙ given.0, given.1 ∙ e)
+port_may_become_carried m s t p a e (inr (c, fits, is)) =
+    inr (c, fits, is ∙ memory_same c s.target t.target p a e)
 
 abbrev any_choice : Choice
 any_choice =
@@ -341,7 +349,8 @@ any_choice =
     }
 
 may_become_same : (s : Port) → s.target.pending ≡ None → MayBecome s s.target.memory
-may_become_same s none = (
+unfolding MayBecome
+may_become_same s none = inr (
   any_choice,
   record { address = omega arith; filler = omega arith; others = omega arith; elsewhere = omega arith },
   sym
@@ -349,7 +358,10 @@ may_become_same s none = (
 )
 
 may_become_only : (m : Bus) (s : Port) → s.target.pending ≡ None → MayBecome s m → m ≡ s.target.memory
-may_become_only m s none (c, fits, is) = is ∙ ap (λ p. p.target.memory) (no_pending_same_port c s none)
+unfolding MayBecome
+may_become_only m s none (inl given) =
+    absurd (let write : is_pending_write s.target.pending ≡ true = given.0 in grind arith)
+may_become_only m s none (inr (c, fits, is)) = is ∙ ap (λ p. p.target.memory) (no_pending_same_port c s none)
 
 -- without a pending transfer the memory may become what it is, and nothing else
 pub port_may_become_of_none : PortMayBecomeOfNone

@@ -9,6 +9,7 @@ mod WorkedRuns
 pub mod PlainLaws
 pub mod PlainBusLaws
 pub mod CompletionLaws
+pub mod GivingUpLaws
 pub mod RequestLaws
 pub mod MovingLaws
 pub mod StatusLaws

@@ -1,5 +1,5 @@
 -- A story stays one where the bus has as its content the accesses that it got. So a theorem about every bus names them.
-use Rattle.std.proofs.Common.{◌≡◌, ◌≢◌, ◌≤◌, ◌+◌, ℕ, true, false, List, [], ◌∷◌, ◌++◌, length, Option, Some, None}
+use Rattle.std.proofs.Common.{◌≡◌, ◌≢◌, ◌≤◌, ℕ, true, false, List, [], ◌∷◌, ◌++◌, length, Option, Some, None}
 use Rattle.std.proofs.Common.{refl, sym, ap, subst, inl, inr, arith, ◌∙◌, append-nil}
 use Rattle.std.specs.Prelude.{if◌then◌else◌, ◌==◌, unwrap_or}
 use Rattle.std.specs.FinMap.{empty}
@@ -16,7 +16,7 @@ use Rattle.swd_port.specs.Port.{Port, Register, Drw, Reads, Writes, port_registe
 use Rattle.swd_port.specs.Choices.{Mark, Choice}
 use Rattle.swd_port.specs.Completion.{PortCompletes, port_completed}
 use Rattle.swd_port.specs.Answers.{Reply, Okay, Waits, Faults, Silent}
-use Rattle.swd_port.specs.Asking.{PortAsksNow, port_after_reply, port_reply}
+use Rattle.swd_port.specs.Asking.{PortAsksNow, port_after_reply, port_reply, PortKeepsOrGivesUp}
 use Rattle.swd_port.specs.Moving.{PortTakesNow, PortGivesNow, PortPassesNow}
 use Rattle.swd_port.specs.Leading.{PortLeadsNow}
 use Rattle.swd_port.specs.Stories.{IsPortStep, FitsStory, port_at, port_due_by}
@@ -167,6 +167,16 @@ given p s bits t now = record { refuses = now.refuses; after = ap (port_recordin
 passed : (p : List Access) (s t : Port) → PortPassesNow s t → PortPassesNow (port_recording p s) (port_recording p t)
 passed p s t now = record { after = ap (port_recording p) now.after }
 
+given_up_recording : (p : List Access) (mark : Mark) (q : Request) (s t : Port) → PortKeepsOrGivesUp mark q s t
+    → PortKeepsOrGivesUp mark q (port_recording p s) (port_recording p t)
+given_up_recording p mark q s t (inl e) = inl (ap (port_recording p) e)
+given_up_recording p mark q s t (inr g) = inr (record {
+  exempt = g.exempt;
+  seen = g.seen;
+  write = g.write;
+  after = ap (port_recording p) g.after;
+})
+
 step_recording : (past : List Access) (cue : Cue) (seen : ℕ) (s t : Port) (h : IsPortStep cue seen s t)
     → IsPortStep cue seen (port_recording past s) (port_recording (past ++ accesses_of_step cue seen s t h) t)
 step_recording past (Lead ones undriven switch zeros) seen s t (a, b, first, now, last) =
@@ -177,14 +187,16 @@ step_recording past (Lead ones undriven switch zeros) seen s t (a, b, first, now
       led p a ones b now,
       completes_later past (accesses_of_completion s a first) b t last,
     )
-step_recording past (Ask request) seen s t (a, b, mark, c, first, now, last) =
+step_recording past (Ask request) seen s t (a, d, b, mark, c, first, kept, now, last) =
     let p = past ++ accesses_of_completion s a first in (
       port_recording p a,
+      port_recording p d,
       port_recording p b,
       mark,
       c,
       completes_recording past s a first,
-      asked p mark c a request seen b now,
+      given_up_recording p mark request a d kept,
+      asked p mark c d request seen b now,
       completes_later past (accesses_of_completion s a first) b t last,
     )
 step_recording past Take seen s t (a, b, first, now, last) =

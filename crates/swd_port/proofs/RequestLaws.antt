@@ -23,6 +23,7 @@ use Rattle.swd_port.specs.Outcomes.{PortHeard, PortOkaySeen, PortFaultSeen, Port
 use Rattle.swd_port.specs.Outcomes.{PortOkayWaitOrLost, PortFaultOrLost, okay, wait, lost, fault}
 use Rattle.swd_port.specs.Completion.{PortCompletes}
 use Rattle.swd_port.specs.Moves.{PortAround, PortKept}
+use Rattle.swd_port.proofs.GivingUpLaws.{asks_kept_plain, asks_kept_at_rest}
 use Rattle.swd_port.specs.Transfers.{PortSent}
 use Rattle.swd_port.specs.Laws.Requests.{PortFreeOrFault, PortLeftByLost, PortExemptRequest, PortExemptAtRest}
 use Rattle.swd_port.specs.Laws.Requests.{PortIdentificationRead, PortIdentificationAtRest, PortFlaggedRequest}
@@ -417,7 +418,8 @@ flag_stays s a k (inr e) = inr (k.write_error ∙ e)
 
 -- a live target with a flag set answers a request that isn't exempt FAULT, unless it is lost
 pub port_flagged_request : PortFlaggedRequest
-port_flagged_request r q seen s t named plain live flag (a, b, mark, c, first, now, last) =
+port_flagged_request r q seen s t named plain live flag h =
+    let (a, b, mark, c, first, now, last) = asks_kept_plain r q seen s t named plain h in
     let k : PortKept s a = port_kept s a first in (
       a,
       b,
@@ -440,7 +442,8 @@ free_or_fault mark c r q seen s t named plain live write power h true e = inr
 -- a live target with WDATAERR clear and power for the request answers one that isn't exempt OK or WAIT, or FAULT if
 -- STICKYERR is set by then, unless it is lost
 pub port_free_request : PortFreeRequest
-port_free_request r q seen s t named plain live write power (a, b, mark, c, first, now, last) =
+port_free_request r q seen s t named plain live write power h =
+    let (a, b, mark, c, first, now, last) = asks_kept_plain r q seen s t named plain h in
     let k : PortKept s a = port_kept s a first in (
       a,
       b,
@@ -498,7 +501,8 @@ pub port_exempt_at_rest : PortExemptAtRest
 port_exempt_at_rest r q seen s t named exempt live none h =
     port_step_exactly (PortOkayOrLost r q.read seen) s t
     (λ b. okay_or_lost_rests r q.read seen s b (exempt_starts_none r s.target.pending exempt none) none)
-    (port_step_at_rest (PortOkayOrLost r q.read seen) s t none (port_exempt_request r q seen s t named exempt live h))
+    (port_step_at_rest (PortOkayOrLost r q.read seen) s t none
+    (port_exempt_request r q seen s t named exempt live (asks_kept_at_rest q seen s t none h)))
 
 -- the same for a DPIDR read at a target that had a line reset
 pub port_identification_at_rest : PortIdentificationAtRest
@@ -506,7 +510,7 @@ port_identification_at_rest q seen s t named reset none h =
     port_step_exactly (PortOkayOrLost DpidrRead q.read seen) s t
     (λ b. okay_or_lost_rests DpidrRead q.read seen s b none none)
     (port_step_at_rest (PortOkayOrLost DpidrRead q.read seen) s t none
-    (port_identification_read q seen s t named reset h))
+    (port_identification_read q seen s t named reset (asks_kept_at_rest q seen s t none h)))
 
 -- the same for FAULT to a request that isn't exempt, at a live target with a flag set
 pub port_flagged_at_rest : PortFlaggedAtRest
@@ -517,7 +521,8 @@ port_flagged_at_rest r q seen s t named plain live none flag h =
 
 -- the same for FAULT to an AP access, at a live target without debug power
 pub port_unpowered_at_rest : PortUnpoweredAtRest
-port_unpowered_at_rest r q seen s t named plain live none access power (a, b, mark, c, first, now, last) =
+port_unpowered_at_rest r q seen s t named plain live none access power h =
+    let (a, b, mark, c, first, now, last) = asks_kept_plain r q seen s t named plain h in
     let k : PortKept s a = port_kept s a first in
     let step : PortFaultOrLost r q.ap seen a b =
     port_unpowered_now mark c r q seen a b (ap (λ x. port_register x q) k.select ∙ named)

@@ -318,7 +318,7 @@ shown_as s t due same e =
 step_of : (mark : Mark) (cue : Cue) (seen : ℕ) (s t : Port) → IsPortStepUnder mark cue seen s t
     → IsPortStep cue seen s t
 step_of mark (Lead ones undriven switch zeros) seen s t h = h
-step_of mark (Ask request) seen s t (a, b, c, first, now, last) = (a, b, mark, c, first, now, last)
+step_of mark (Ask request) seen s t (a, b, c, first, now, last) = (a, a, b, mark, c, first, inl refl, now, last)
 step_of mark Take seen s t h = h
 step_of mark (Give bits) seen s t h = h
 step_of mark Pass seen s t h = h

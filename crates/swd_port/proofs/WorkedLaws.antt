@@ -64,9 +64,11 @@ asks : (mark : Mark) (q : Request) (s : Port) → IsPortMark mark
     → PortAsks s q (port_seen_at mark (port_reply mark s.target q)) (after mark q s)
 asks mark q s legal settled word = (
   s,
+  s,
   after mark q s,
   mark,
   port_case_choice,
+  inl refl,
   inl refl,
   record {
     legal = legal;
@@ -179,10 +181,12 @@ written_answers = rw one_word refl
 confirmed : PortAsks given (dp_read RC) 1 (after Clean (dp_read RC) written)
 confirmed = (
   written,
+  written,
   after Clean (dp_read RC) written,
   Clean,
   port_case_choice,
   inr (port_case_choice, port_case_choice_fits, refl),
+  inl refl,
   record {
     legal = tt;
     choice = port_case_choice_fits;

@@ -1,7 +1,8 @@
 -- A request and its acknowledgement: one call of `ask`.
 -- Source: IHI 0031, B4, "Packet request", "Acknowledge response", "Data transfer", "Read accesses"; B2, on
 -- CTRL/STAT, RDBUFF and RESEND; and MEM-AP, "DRW, Data Read/Write register".
-use Rattle.std.specs.Prelude.{ℕ, ◌≡◌, ◌<◌, ◌^◌, ◌+◌, ◌||◌, ◌&&◌, Bool, true, false, if◌then◌else◌, Option, Some, None}
+use Rattle.std.specs.Prelude.{ℕ, ◌≡◌, ◌<◌, ◌^◌, ◌+◌, ◌⊎◌, ◌||◌, ◌&&◌, Bool, true, false, if◌then◌else◌, Option, Some}
+use Rattle.std.specs.Prelude.{None}
 use Rattle.std.specs.Prelude.{unwrap_or}
 use Rattle.swd_bits.specs.declared.request.Request.{Request}
 use Rattle.swd_port.specs.Registers.{ctrl_stat_read, csw_read}
@@ -10,7 +11,7 @@ use Rattle.swd_port.specs.Choices.{port_flipped, Mark, IsPortMark, port_flip_of,
 use Rattle.swd_port.specs.Choices.{IsPortChoice, PortMayBeLate}
 use Rattle.swd_port.specs.Port.{Port, Target, PortTally, Register, DpidrRead, CtrlStatRead, ResendRead, RdbuffRead}
 use Rattle.swd_port.specs.Port.{DpOtherRead, CswRead, CswWrite, TarRead, TarWrite, DrwRead, DrwWrite, ApOtherRead}
-use Rattle.swd_port.specs.Port.{ApOtherWrite, Live, PowerUp, Late, Seen, AfterAck, Drives, Awaits, Drw, Reads}
+use Rattle.swd_port.specs.Port.{ApOtherWrite, Live, PowerUp, Late, Seen, AfterAck, Drives, Awaits, Drw, Reads, Writes}
 use Rattle.swd_port.specs.Port.{port_register}
 use Rattle.swd_port.specs.Answers.{Reply, Okay, Waits, Faults, Silent, is_exempt_register, is_dpidr_register}
 use Rattle.swd_port.specs.Answers.{is_port_okay, is_port_power_there, is_port_unpowered, port_answer_by}
@@ -188,8 +189,30 @@ pub record PortAsksNow (mark : Mark) (c : Choice) (s : Port) (q : Request) (seen
   pub sees : PortSees mark (port_reply mark s.target q) seen
   pub after : t ≡ port_after_reply mark (port_reply mark s.target q) (port_register s.target.select q) q c s
 
--- one call of `ask`: some mark, some choice, and completion before and after
+-- A port with a write buffer gives up a write that it accepted, where DPIDR or CTRL/STAT is read or ABORT is written:
+-- these requests can't wait for it. Nothing reaches the bus, and WDATAERR is set. It counts as a disturbance.
+abbrev pub is_pending_write : Option Drw → Bool
+is_pending_write (Some (Writes word)) = true
+is_pending_write pending = false
+
+abbrev pub port_without_write : Port → Port
+port_without_write s = record s {
+  target = record s.target { write_error = true; pending = None };
+  tally = record s.tally { disturbed = s.tally.disturbed + 1 };
+}
+
+-- the target sees an exempt request and gives the pending write up (whether it does: this project's choice)
+pub record PortGivesUp (mark : Mark) (q : Request) (s t : Port) : Type 0 where
+  pub exempt : is_exempt_register (port_register s.target.select q) ≡ true
+  pub seen : port_reply mark s.target q ≡ Okay
+  pub write : is_pending_write s.target.pending ≡ true
+  pub after : t ≡ port_without_write s
+
+abbrev pub PortKeepsOrGivesUp : Mark → Request → Port → Port → Type 0
+PortKeepsOrGivesUp mark q s t = (t ≡ s) ⊎ PortGivesUp mark q s t
+
+-- one call of `ask`: some mark, some choice, a pending write that may be given up, and completion before and after
 abbrev pub PortAsks : Port → Request → ℕ → Port → Type 0
 PortAsks s q seen t =
-    (a : Port) × (b : Port) × (mark : Mark) × (c : Choice) × PortCompletes s a × PortAsksNow mark c a q seen b
-    × PortCompletes b t
+    (a : Port) × (d : Port) × (b : Port) × (mark : Mark) × (c : Choice) × PortCompletes s a
+    × PortKeepsOrGivesUp mark q a d × PortAsksNow mark c d q seen b × PortCompletes b t

@@ -5,6 +5,7 @@ pub mod Bus
 pub mod Choices
 pub mod Completion
 pub mod CueKinds
+pub mod GivingUp
 pub mod Laws
 pub mod Leading
 pub mod Made

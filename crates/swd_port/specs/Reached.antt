@@ -29,7 +29,7 @@ accesses_of_completion s t (inr (c, legal, after)) = accesses_once_completed c s
 abbrev pub accesses_of_step : (cue : Cue) (seen : ℕ) (s t : Port) → IsPortStep cue seen s t → List Access
 accesses_of_step (Lead ones undriven switch zeros) seen s t (a, b, first, now, last) =
     accesses_of_completion s a first ++ accesses_of_completion b t last
-accesses_of_step (Ask request) seen s t (a, b, mark, c, first, now, last) =
+accesses_of_step (Ask request) seen s t (a, d, b, mark, c, first, kept, now, last) =
     accesses_of_completion s a first ++ accesses_of_completion b t last
 accesses_of_step Take seen s t (a, b, first, now, last) =
     accesses_of_completion s a first ++ accesses_of_completion b t last

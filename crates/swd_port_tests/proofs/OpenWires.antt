@@ -32,9 +32,11 @@ open_asked : (q : Request) (due : Due) (reset : Reset) (n : ℕ)
     → PortAsks (open_wire_port due reset n) q 7 (open_wire_port Lost reset (n + 1))
 open_asked q due reset n = (
   open_wire_port due reset n,
+  open_wire_port due reset n,
   open_wire_port Lost reset (n + 1),
   Deaf,
   port_case_choice,
+  inl refl,
   inl refl,
   record {
     legal = tt;

@@ -1,6 +1,6 @@
 -- What a run tells that was resumed at lost acknowledgements.
 use Rattle.std.proofs.Common.{◌≡◌, ℕ, zero, suc, ◌+◌, ◌-◌, ◌*◌, ◌<◌, ◌≤◌, ◌∙◌, List, [], ◌∷◌, ◌++◌, length, take, drop}
-use Rattle.std.proofs.Common.{min, Bool, false, true, refl, sym, ap, subst, arith}
+use Rattle.std.proofs.Common.{min, Bool, false, true, refl, sym, ap, subst, inl, inr, arith}
 use Rattle.std.proofs.lemmas.List.{length-append, length-drop, length-take-le, take-append-le, take_all}
 use Rattle.std.specs.Prelude.{◌↔◌, ◌≢◌, max, if◌then◌else◌}
 use Rattle.swd_port.specs.declared.access.Access.{Access}
@@ -124,6 +124,18 @@ any = record {
 is_any : IsPortChoice any
 is_any = record { address = omega arith; filler = omega arith; others = omega arith; elsewhere = omega arith }
 
+-- the bus may become what a pending transfer leaves
+became : (t : Port) → MayBecome t (port_completed any t).target.memory
+unfolding MayBecome
+became t = inr (any, is_any, refl)
+
+-- what holds of the bus as it is, and of what each choice leaves, holds of each that it may become
+became_either : (P : Bus → Type 0) (t : Port) (now : Bus) → MayBecome t now → P t.target.memory
+    → ((c : Choice) → P (port_completed c t).target.memory) → P now
+unfolding MayBecome
+became_either P t now (inl given) here later = subst P (sym given.1) here
+became_either P t now (inr (c, legal, is)) here later = subst P (sym is) (later c)
+
 -- going on
 call_resumed : (kind : Bursts) (tries : ℕ) (list : List Access) (earlier told : HostReport) (due : _) (s t : Port)
     → ResumeCloses (script_resumed_bursts kind) list tries earlier told due
@@ -138,7 +150,7 @@ call_resumed kind tries list earlier told due s t goes fits =
     length-drop (length earlier.answers) list in
     let number = goes.number in
     let new : length added ≡ length told.answers - length earlier.answers = omega (arith, many) in
-    let from = fits.goes (port_completed any t).target.memory (any, is_any, refl) in
+    let from = fits.goes (port_completed any t).target.memory (became t) in
     let fit = from.fits.1 in
     let told_many : length added ≡ from.fits.0 =
     ap length fit.answers ∙ script_calls_answer_count (take from.fits.0 (drop (length earlier.answers) list))
@@ -325,7 +337,7 @@ in_turn_at opened limit list m stops told t ended is at_rest h = by ended is
       calls = h.calls;
       are = h.are;
       memory = (port_completed any t).target.memory;
-      chain = h.chained (port_completed any t).target.memory (any, is_any, refl);
+      chain = h.chained (port_completed any t).target.memory (became t);
       left = λ all. absurd (never all);
     }
 
@@ -487,9 +499,9 @@ module _ {W : Type 0} (wire : Ghosts W) {opened : Bool} (kind : Bursts)
     calls = [];
     are = refl;
     chained = λ now may. chain_first opened (bursts_limit kind) list (wire.port s).target.memory a now
-        (subst (FitsFrom (script_opening_requests opened) (bursts_limit kind) list (wire.port s).target.memory a)
-        (sym may.2)
-        (((over law).1 starts).later may.0));
+        (became_either
+        (FitsFrom (script_opening_requests opened) (bursts_limit kind) list (wire.port s).target.memory a)
+        (wire.port u) now may ((over law).1 starts).now ((over law).1 starts).later);
   }
   in_turn stops told t (resumed {stops = before} {earlier = e} {told = a} {t = u} {u = v} went lost same goes over says)
       law

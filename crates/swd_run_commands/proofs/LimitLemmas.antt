@@ -1,4 +1,4 @@
--- A run by limits and over a way that were computed is one by those of its arguments.
+-- A run by limits that were computed is one by those of its arguments.
 use Rattle.std.proofs.Common.{◌≡◌, ℕ, Bool, List, [], Option, Result, subst}
 use Rattle.swd_port.specs.Port.{Port}
 use Rattle.swd_port.specs.declared.call.Call.{Call}
@@ -20,16 +20,15 @@ pub ran_as_asked : {R W : Type 0} {batches : List ScriptListed} {answer : Result
     {old new : Option (List ℕ)} {before after : RunFiles} (story : ℕ → Port) (check : Bool)
     (remaining : R → Option (List ℕ)) (contents : W → Option (List ℕ)) (sent left : Option (List ℕ))
     (line : RemoteStreams R W) (calls : List Call) (verdict : Option Checked) (x y : Limits) → x ≡ y
-    → (v w : Way) → v ≡ w
-    → BatchAnswersAt (run_story_wire story) x batches [] calls answer old new before after
-    → ∥ GoesOverChecked check v remaining contents sent left line calls verdict ∥₁
+    → (way : Way) → BatchAnswersAt (run_story_wire story) x batches [] calls answer old new before after
+    → ∥ GoesOverChecked check way remaining contents sent left line calls verdict ∥₁
     → RanRemoteEndScript story y
-    (λ calls. ∥ GoesOverChecked check w remaining contents sent left line calls verdict ∥₁) batches answer old new
+    (λ calls. ∥ GoesOverChecked check way remaining contents sent left line calls verdict ∥₁) batches answer old new
     before after
 ran_as_asked {batches = batches} {answer} {old} {new} {before} {after} story check remaining contents sent left line
-    calls verdict x y same v w way answers over = record {
+    calls verdict x y same way answers over = record {
       calls = calls;
       answers = subst (λ limits. BatchAnswersAt (run_story_wire story) limits batches [] calls answer old new before
           after) same answers;
-      over = subst (λ way. ∥ GoesOverChecked check way remaining contents sent left line calls verdict ∥₁) way over;
+      over = over;
     }

@@ -1,5 +1,5 @@
 -- What `swd target` and `swd probe` do with a memory that is in a file.
-use Rattle.std.specs.Prelude.{ℕ, ◌≡◌, ◌⊎◌, ◌+◌, ◌-◌, ◌*◌, ◌/◌, ◌^◌, min, false, List, [], length}
+use Rattle.std.specs.Prelude.{ℕ, ◌≡◌, ◌⊎◌, ◌+◌, ◌-◌, ◌*◌, ◌/◌, ◌^◌, min, Bool, List, [], length}
 use Rattle.std.specs.Prelude.{Option, None, Result, Ok, Err}
 use Rattle.swd_io.specs.Pieces.{IsReaderText}
 use Rattle.swd_port.specs.declared.mark.Mark.{Mark}
@@ -11,7 +11,6 @@ use Rattle.swd_clocked.specs.Marked.{marked_clocked_state}
 use Rattle.swd_bitbang.specs.declared.serving.Served.{Served}
 use Rattle.swd_bitbang.specs.declared.trace.Trace.{Trace}
 use Rattle.swd_bitbang.specs.declared.pins.Pins.{Pins}
-use Rattle.swd_bitbang.specs.Traces.{is_pins_trace_cut_off}
 use Rattle.swd_ends.specs.Serving.{AreTargetEndPinsAtRest, IsTargetEndMade}
 use Rattle.swd_image_ends.specs.Memories.{ImageEndHasRoom, AreImageEndWholeWords, image_end_words_in}
 use Rattle.swd_command_line.specs.declared.command.MemoryLine.{MemoryLine}
@@ -19,7 +18,7 @@ use Rattle.swd_command_line.specs.declared.command.ServedMemory.{ServedMemory}
 use Rattle.swd_command_line.specs.declared.command.ServedMemory.TheVariants.{Script, File}
 use Rattle.swd_console.specs.MemoryFiles.{CommandWritesBack}
 use Rattle.swd_console.specs.Statuses.{CommandNotOpened}
-use Rattle.swd_run_commands.specs.Targets.{IsServedCommandStatus, ServesHost, TargetCommandServesHost}
+use Rattle.swd_run_commands.specs.Targets.{IsServedCommandStatus, IsSessionWhole, ServesHost, TargetCommandServesHost}
 
 -- the room of a session at a memory of so many words: 16 transfers for each word, and 65,536 more. It is smaller only
 -- where the log would have more than 2^32 - 1 transfers, with one for each word.
@@ -46,12 +45,13 @@ IsTargetCommandStatus served Whole (Err error) status = status ≡ error
 pub record TargetCommandServes {A : Type 0} (packets : Option ℕ) (s : Pins PlainMemory A) (base count status : ℕ)
     (text left old new file_old file_new : Option (List ℕ)) : Type 0 where
   pub served : Served
+  pub cut : Bool
   pub after : Pins PlainMemory A
-  pub session : ServesHost bus_of packets served text left old new s after
+  pub session : ServesHost bus_of packets served cut text left old new s after
   pub wrote : Result (Unit {0}) ℕ
   pub written : CommandWritesBack (plain_of (marked_clocked_state bus_of after.target).memory) base count wrote file_old
       file_new
-  pub is : IsTargetCommandStatus served (is_pins_trace_cut_off after.trace ≡ false) wrote status
+  pub is : IsTargetCommandStatus served (IsSessionWhole cut after) wrote status
 
 module _ (A : Type 0) (status : ℕ) (text left old new : Option (List ℕ)) (idr packets : Option ℕ)
   where

@@ -12,12 +12,12 @@ use std::io::{Read, Write};
 use swd_command_line::CoreLine;
 use swd_console::{
     Clock, Console, DONE, FAULT, Files, InUse, KeepsError, STOPPED, Stream, StreamsInUse,
-    status_after, tell, tell_failure, tell_session, way_of,
+    status_after, tell, tell_failure, tell_session,
 };
 use swd_core::{CoreAction, CoreRegister, LOCKED, identity_of, script_text, steps_of, trouble_of};
 use swd_io::send;
 use swd_port::Story;
-use swd_remote::{Line, RemoteStreams};
+use swd_remote::RemoteStreams;
 use swd_script::{Script, hex_of, read_script};
 
 const NO_MEMORY: &str = "no memory";
@@ -122,16 +122,11 @@ fn run_core<
     if let Err(status) = cut_off_records(run, &records, console) {
         return (status, RemoteStreams::unused(input, output));
     }
-    let line = Line {
-        reader: input,
-        writer: output,
-        way: way_of(run.probe),
-    };
     let mut report = Vec::new(console.alloc);
     let (ran, line) = report_to_file::<P, _, _, _, _, _, _, _, _>(
         run,
         script,
-        line,
+        (input, output),
         &mut report,
         records,
         console,

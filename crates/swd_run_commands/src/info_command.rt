@@ -6,11 +6,12 @@ use std::alloc::Allocator;
 use std::io::{Read, Write};
 use swd_command_line::InfoLine;
 use swd_console::{
-    Console, DONE, KeepsError, STOPPED, engine_status, gone_status, line_streams, way_of,
+    Console, DONE, KeepsError, STOPPED, at_the_target, engine_status, gone_status, line_streams,
 };
+use swd_ends::AccessesJob;
 use swd_host::{End, Refused, Report};
 use swd_port::Story;
-use swd_remote::{Line, RemoteStreams, run_over_line};
+use swd_remote::RemoteStreams;
 
 /// Opens the target behind the streams by a run without accesses. Returns the status, and the streams with the error
 /// that ended the connection, if any. At an error it prints a line.
@@ -31,12 +32,16 @@ pub fn perform_info<
     ensures { PerformsInfo A P.at info.now result.0 I.remaining O.contents (O.contents output) (I.remaining input)
         result.1 }
 {
-    let line = Line {
-        reader: input,
-        writer: output,
-        way: way_of(info.probe),
+    let alloc = console.alloc;
+    let mut job = AccessesJob {
+        alloc,
+        accesses: &[],
+        tries: info.tries,
     };
-    let (answer, line) = run_over_line::<P, _, _, _>(console.alloc, line, &[], info.tries);
+    let ends = (input, output);
+    let (answer, line, _) = at_the_target::<P, _, _, _, _>(
+        alloc, &mut job, info.probe, false, ends,
+    );
     let status = info_status(console.errors, answer, &line);
     (status, line)
 }

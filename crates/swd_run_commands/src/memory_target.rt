@@ -4,9 +4,9 @@ ghost use Rattle.swd_target.specs.Marks.{IsLegalPlan};
 ghost use Rattle.swd_run_commands.specs.MemoryTargets.{ServesBytes, ServesMemory, TargetCommandServes};
 ghost use Rattle.swd_run_commands.specs.MemoryTargets.{target_command_room};
 
-use crate::host::serve_host;
+use crate::host::{Hosted, serve_host};
 use crate::session::{
-    SessionFiles, are_complete, cut_off_session, open_session, served_status, served_streams,
+    SessionFiles, cut_off_session, missing_of, open_session, served_status, served_streams,
 };
 use std::alloc::Allocator;
 use std::io::{Read, Write};
@@ -37,7 +37,7 @@ pub(crate) fn perform_memory_target<
     console: &mut Console<'_, A, F, C, E>,
 ) -> u8
     ensures { (ram : Option (List ℕ)) × ServesMemory A result (I.remaining input.old) (I.remaining input.new)
-        (O.contents output.old) (O.contents output.new) target.now.idr target.now.packets memory.now ram }
+        (O.contents output.old) (O.contents output.new) target.now.idr target.now.packet_size memory.now ram }
 {
     let mut in_use = InUse::new(StreamsInUse::Both);
     match read_target_files(memory, &mut in_use, console) {
@@ -73,7 +73,7 @@ fn serve_held<
 ) -> u8
     requires { IsLegalPlan held.marks.items }
     ensures { ServesBytes A result (I.remaining input.old) (I.remaining input.new) (O.contents output.old)
-        (O.contents output.new) target.now.idr target.now.packets held.entry.memory.now.base held.entry.bytes.items
+        (O.contents output.new) target.now.idr target.now.packet_size held.entry.memory.now.base held.entry.bytes.items
         held.entry.marks.items }
 {
     let HeldMemory {
@@ -134,7 +134,7 @@ fn serve_session<
     console: &mut Console<'_, A, F, C, E>,
 ) -> u8
     requires { session.back.memory.now.base + session.back.count ≤ 2 ^ 32 }
-    ensures { (new : Option (List ℕ)) × TargetCommandServes target.now.packets session.entry.pins
+    ensures { (new : Option (List ℕ)) × TargetCommandServes target.now.packet_size session.entry.pins
         session.entry.back.memory.now.base session.entry.back.count
         result (I.remaining input.old) (I.remaining input.new) (O.contents output.old) (O.contents output.new)
         (F.Made.Write.contents session.entry.back.file) new }
@@ -146,16 +146,21 @@ fn serve_session<
     } = session;
     let SessionFiles { log, trace } = files;
     let before = pins.target().memory().log().len();
-    let (served, pins, live) = serve_host(target.packets, input, output, pins, log, trace);
-    let done = are_complete(&live, pins.trace());
-    let (log, trace) = live.into_writers();
+    let Hosted {
+        served,
+        is_cut_off,
+        pins,
+        files,
+    } = serve_host(target.packet_size, input, output, pins, log, trace);
+    let missing = missing_of(&files, pins.trace(), is_cut_off);
+    let (log, trace) = files.into_writers();
     let files = SessionFiles { log, trace };
     let after = pins.target().memory();
     tell_if_used_up(console.errors, back.memory.base, after, before);
     match write_back(after, &mut back, console) {
         Ok(()) => {
             let streams = served_streams(target, input, output, &files);
-            served_status(console.errors, target, served, done, streams.as_slice())
+            served_status(console.errors, target, served, missing, streams.as_slice())
         }
         Err(status) => status,
     }

@@ -4,7 +4,6 @@ ghost use Rattle.swd_capture_text.specs.Captures.{accesses_printed};
 ghost use Rattle.swd_script.specs.Laws.{IsScriptRunnable};
 ghost use Rattle.swd_script.specs.Readers.{read_script_meaning};
 ghost use Rattle.swd_run.specs.Records.{run_files_of};
-ghost use Rattle.swd_console.specs.Connections.{command_way};
 ghost use Rattle.swd_console.specs.Verdicts.{command_status_of_session};
 ghost use Rattle.swd_run_commands.specs.Remotes.{PerformsRemoteCommand, RunsRemoteScript, remote_command_status};
 ghost use Rattle.swd_run_commands.specs.Runs.{AreRunCommandFiles};
@@ -17,16 +16,15 @@ use std::io::{Read, Write};
 use swd_capture_text::AccessesPrinter;
 use swd_check::Checked;
 use swd_command_line::RunLine;
-use swd_conform::over_checked_line;
 use swd_console::{
     Clock, Console, Destination, ERRORS, FAULT, Files, InUse, KeepsError, Stream, TrackedReader,
-    Watched, WriteRole, advice_on, cannot_open, cut_off, gone_status, line_streams,
-    name_or_nothing, run_status, session_status, tell, tell_failure, way_of,
+    Watched, WriteRole, advice_on, at_the_target, cannot_open, cut_off, gone_status, line_streams,
+    name_or_nothing, run_status, session_status, tell, tell_failure,
 };
 use swd_ends::RunJob;
 use swd_host::End;
 use swd_port::Story;
-use swd_remote::{Line, RemoteStreams};
+use swd_remote::RemoteStreams;
 use swd_run::{EngineFault, Finished, Records};
 use swd_script::{Script, read_script};
 
@@ -139,17 +137,13 @@ pub(crate) fn perform_remote<
     if let Err(status) = cut_off_records(run, &records, console) {
         return (status, RemoteStreams::unused(input, output));
     }
-    let line = Line {
-        reader: input,
-        writer: output,
-        way: way_of(run.probe),
-    };
+    let ends = (input, output);
     match report {
         Destination::File(file) => {
-            report_to_file::<P, _, _, _, _, _, _, _, _>(run, &read, line, file, records, console)
+            report_to_file::<P, _, _, _, _, _, _, _, _>(run, &read, ends, file, records, console)
         }
         Destination::Errors => {
-            report_to_errors::<P, _, _, _, _, _, _, _>(run, &read, line, records, console)
+            report_to_errors::<P, _, _, _, _, _, _, _>(run, &read, ends, records, console)
         }
     }
 }
@@ -157,7 +151,7 @@ pub(crate) fn perform_remote<
 // A run at a remote target: its result, its connection, the verdict on its session if that was checked, its report, and
 // its other files.
 #[derive(Drop)]
-struct RemoteRan<'a, R, W, T> {
+struct ScriptRan<'a, R, W, T> {
     answer: Result<Finished, EngineFault>,
     line: RemoteStreams<R, W>,
     verdict: Option<Checked>,
@@ -179,16 +173,15 @@ pub(crate) fn report_to_file<
 >(
     run: &RunLine,
     script: &Script<A>,
-    line: Line<I, O>,
+    ends: (I, O),
     file: M,
     records: Records<T, AccessesPrinter>,
     console: &mut Console<'_, A, F, C, E>,
 ) -> (u8, RemoteStreams<I, O>)
     requires script { IsScriptRunnable (read_script_meaning script.now) }
-    requires way { line.way ≡ command_way run.now.probe }
     requires files { AreRunCommandFiles run.now false (run_files_of T.contents accesses_printed records) }
-    ensures { RunsRemoteScript P.at run.now result.0 I.remaining O.contents (O.contents line.writer)
-        (I.remaining line.reader) result.1 (read_script_meaning script.now).batches }
+    ensures { RunsRemoteScript P.at run.now result.0 I.remaining O.contents (O.contents ends.1)
+        (I.remaining ends.0) result.1 (read_script_meaning script.now).batches }
 {
     let alloc = console.alloc;
     let mut job = RunJob {
@@ -198,15 +191,15 @@ pub(crate) fn report_to_file<
         report: Watched::new(file),
         records: paced(run, records, &mut *console.errors, console.clock),
     };
-    let (answer, line, verdict) = over_checked_line::<P, _, _, _, _>(
-        alloc, run.check, &mut job, line,
+    let (answer, line, verdict) = at_the_target::<P, _, _, _, _>(
+        alloc, &mut job, run.probe, run.check, ends,
     );
     let RunJob {
         report,
         records,
         ..
     } = job;
-    let ran = RemoteRan {
+    let ran = ScriptRan {
         answer,
         line,
         verdict,
@@ -229,15 +222,14 @@ fn report_to_errors<
 >(
     run: &RunLine,
     script: &Script<A>,
-    line: Line<I, O>,
+    ends: (I, O),
     records: Records<T, AccessesPrinter>,
     console: &mut Console<'_, A, F, C, E>,
 ) -> (u8, RemoteStreams<I, O>)
     requires script { IsScriptRunnable (read_script_meaning script.now) }
-    requires way { line.way ≡ command_way run.now.probe }
     requires files { AreRunCommandFiles run.now false (run_files_of T.contents accesses_printed records) }
-    ensures { RunsRemoteScript P.at run.now result.0 I.remaining O.contents (O.contents line.writer)
-        (I.remaining line.reader) result.1 (read_script_meaning script.now).batches }
+    ensures { RunsRemoteScript P.at run.now result.0 I.remaining O.contents (O.contents ends.1)
+        (I.remaining ends.0) result.1 (read_script_meaning script.now).batches }
 {
     let alloc = console.alloc;
     let mut job = RunJob {
@@ -247,8 +239,8 @@ fn report_to_errors<
         report: Watched::new(&mut *console.errors),
         records,
     };
-    let (answer, line, verdict) = over_checked_line::<P, _, _, _, _>(
-        alloc, run.check, &mut job, line,
+    let (answer, line, verdict) = at_the_target::<P, _, _, _, _>(
+        alloc, &mut job, run.probe, run.check, ends,
     );
     let RunJob {
         report,
@@ -257,7 +249,7 @@ fn report_to_errors<
     } = job;
     let written = Stream::written(ERRORS, &report);
     drop(report);
-    let ran = RemoteRan {
+    let ran = ScriptRan {
         answer,
         line,
         verdict,
@@ -278,14 +270,14 @@ fn ended<
     E: Write,
 >(
     run: &RunLine,
-    ran: RemoteRan<'_, I, O, T>,
+    ran: ScriptRan<'_, I, O, T>,
     console: &mut Console<'_, A, F, C, E>,
 ) -> (u8, RemoteStreams<I, O>)
     ensures line { result.1 ≡ ran.entry.line }
     ensures status { result.0 ≡ command_status_of_session ran.entry.verdict
         (remote_command_status run.now.strict ran.entry.line.fault ran.entry.answer) }
 {
-    let RemoteRan {
+    let ScriptRan {
         answer,
         line,
         verdict,

@@ -1,5 +1,5 @@
 //! A session of a host at a simulated target: its files, its streams, and its status.
-ghost use Rattle.std.specs.Prelude.{◌≡◌, IfErr, IfOk, is_some, true, false};
+ghost use Rattle.std.specs.Prelude.{◌≡◌, IfErr, IfOk, is_some, false};
 ghost use Rattle.swd_bitbang.specs.Traces.{is_pins_trace_cut_off};
 ghost use Rattle.swd_run_commands.specs.Targets.{IsServedCommandStatus};
 
@@ -95,33 +95,43 @@ pub(crate) fn served_streams<'a, I: KeepsError, O: KeepsError, M: KeepsError>(
     ]
 }
 
-/// Returns whether both files were written completely, and the trace isn't truncated.
-pub(crate) fn are_complete<M, A: Allocator>(files: &LiveFiles<M>, kept: &Trace<A>) -> bool
-    ensures { result ≡ true → is_pins_trace_cut_off kept.now ≡ false }
+/// Returns what is missing of a session that was served to its end: the rest of a packet (`is_cut_off`), of a file, or
+/// of the trace.
+pub(crate) fn missing_of<M, A: Allocator>(
+    files: &LiveFiles<M>,
+    kept: &Trace<A>,
+    is_cut_off: bool,
+) -> Option<&'static str>
+    ensures { result ≡ None → (is_pins_trace_cut_off kept.now ≡ false) × (is_cut_off ≡ false) }
 {
-    files.are_whole() && !kept.is_cut()
+    if is_cut_off {
+        return Some("the input ended within a packet: are lengths before packets?");
+    }
+    if files.are_whole() && !kept.is_cut() {
+        None
+    } else {
+        Some("trace cut")
+    }
 }
 
-/// Returns the status of a session, and prints what failed. `done`: its log and its trace were written completely, and
-/// the trace isn't truncated.
+/// Returns the status of a session, and prints what failed. `missing` is that of [`missing_of`].
 pub(crate) fn served_status<E: Write>(
     errors: &mut E,
     target: &TargetLine,
     served: Served,
-    done: bool,
+    missing: Option<&str>,
     streams: &[Stream<'_>],
 ) -> u8
-    ensures { IsServedCommandStatus served (done ≡ true) result }
+    ensures { IsServedCommandStatus served (missing.entry ≡ None) result }
 {
     match served {
-        Served::Quit | Served::Ended => {
-            if done {
-                DONE
-            } else {
-                tell_failure_or(errors, streams, "trace cut")
-            }
-        }
-        Served::Bad { place, byte: _ } if target.packets.is_some() => long_status(errors, place),
+        Served::Quit | Served::Ended => match missing {
+            None => DONE,
+            Some(missing) => tell_failure_or(errors, streams, missing),
+        },
+        Served::Bad { place, byte: _ } if target.packet_size.is_some() => long_status(
+            errors, place,
+        ),
         Served::Bad { place, byte } => bad_status(errors, place, byte),
         Served::Read => tell_failure_or(errors, streams, "read failed"),
         Served::Write { written: _ } => tell_failure_or(errors, streams, "write failed"),

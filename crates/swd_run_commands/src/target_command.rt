@@ -3,10 +3,10 @@ ghost use Rattle.std.specs.Prelude.{◌≡◌, ℕ, List, Option};
 ghost use Rattle.swd_run_commands.specs.MemoryTargets.{CommandServesTarget};
 ghost use Rattle.swd_run_commands.specs.Targets.{TargetCommandServesHost};
 
-use crate::host::serve_host;
+use crate::host::{Hosted, serve_host};
 use crate::memory_target::perform_memory_target;
 use crate::session::{
-    SessionFiles, are_complete, cut_off_session, give_up_session, open_session, served_status,
+    SessionFiles, cut_off_session, give_up_session, missing_of, open_session, served_status,
     served_streams,
 };
 use crate::unread::unread_status;
@@ -32,7 +32,7 @@ pub fn perform_target<
     E: Write,
 >(target: &TargetLine, input: &mut I, output: &mut O, console: &mut Console<'_, A, F, C, E>) -> u8
     ensures { CommandServesTarget A result (I.remaining input.old) (I.remaining input.new) (O.contents output.old)
-        (O.contents output.new) target.now.idr target.now.packets target.now.memory }
+        (O.contents output.new) target.now.idr target.now.packet_size target.now.memory }
 {
     match &target.memory {
         ServedMemory::Script(texts) => perform_script_target(target, texts, input, output, console),
@@ -63,7 +63,7 @@ fn perform_script_target<
     console: &mut Console<'_, A, F, C, E>,
 ) -> u8
     ensures { (script : Option (List ℕ)) × (plan : Option (List ℕ)) × TargetCommandServesHost A result script plan
-        target.now.idr target.now.packets (I.remaining input.old) (I.remaining input.new)
+        target.now.idr target.now.packet_size (I.remaining input.old) (I.remaining input.new)
         (O.contents output.old) (O.contents output.new) }
 {
     let name = texts.script.as_str();
@@ -108,7 +108,7 @@ fn serve_under<
     console: &mut Console<'_, A, F, C, E>,
 ) -> u8
     ensures { TargetCommandServesHost A result (S.remaining texts.entry.script.reader)
-        (P.remaining texts.entry.plan.reader) target.now.idr target.now.packets
+        (P.remaining texts.entry.plan.reader) target.now.idr target.now.packet_size
         (I.remaining input.old) (I.remaining input.new) (O.contents output.old) (O.contents output.new) }
 {
     let TargetTexts {
@@ -127,12 +127,17 @@ fn serve_under<
                 return status;
             }
             let SessionFiles { log, trace } = files;
-            let (served, pins, files) = serve_host(target.packets, input, output, pins, log, trace);
-            let done = are_complete(&files, pins.trace());
+            let Hosted {
+                served,
+                is_cut_off,
+                pins,
+                files,
+            } = serve_host(target.packet_size, input, output, pins, log, trace);
+            let missing = missing_of(&files, pins.trace(), is_cut_off);
             let (log, trace) = files.into_writers();
             let files = SessionFiles { log, trace };
             let streams = served_streams(target, input, output, &files);
-            served_status(console.errors, target, served, done, streams.as_slice())
+            served_status(console.errors, target, served, missing, streams.as_slice())
         }
         Err(fault) => {
             give_up_session(target, files, console);

@@ -9,7 +9,7 @@ ghost use Rattle.swd_target.specs.Marks.{IsLegalPlan};
 use std::alloc::{AllocError, Global};
 use swd_clocked::ClockedBench;
 use swd_port::Wire;
-use swd_target::{Bench, Mark, Memory, Quirks};
+use swd_target::{Bench, BufferedBench, Mark, Memory, Quirks};
 
 /// A simulated target: a wire whose memory can be looked at.
 pub trait Simulated: Wire {
@@ -73,5 +73,25 @@ impl Simulated for ClockedBench<Memory> {
 
     fn memory(&self) -> &Memory {
         ClockedBench::memory(self)
+    }
+}
+
+impl Simulated for BufferedBench<Memory> {
+    fn simulate(
+        alloc: Global,
+        memory: Memory,
+        quirks: Quirks,
+        plan: Vec<Mark>,
+    ) -> Result<BufferedBench<Memory>, AllocError> {
+        let _ = alloc;
+        Ok(BufferedBench::new(memory, quirks, plan))
+    }
+
+    fn settle(&mut self) {
+        BufferedBench::settle(self)
+    }
+
+    fn memory(&self) -> &Memory {
+        BufferedBench::memory(self)
     }
 }

@@ -1,12 +1,13 @@
 -- Which accesses reach the bus in a run. For the law `accesses`: the theorem of a run holds for the bus that records
 -- them.
-use Rattle.std.proofs.Common.{◌≡◌, ◌+◌, ℕ, List, [], ◌∷◌, ◌++◌, length, refl, sym, ap, subst, ◌∙◌}
+use Rattle.std.proofs.Common.{◌≡◌, ◌+◌, ℕ, List, [], ◌∷◌, ◌++◌, length, refl, sym, ap, subst, inl, inr, ◌∙◌}
 use Rattle.std.specs.Prelude.{take, drop}
 use Rattle.std.proofs.lemmas.List.{append-nil, append_assoc}
 use Rattle.swd_port.specs.declared.access.Access.{Access}
 use Rattle.swd_port.specs.declared.call.Call.{Call}
 use Rattle.swd_port.specs.Bus.{Bus, bus_after}
 use Rattle.swd_port.specs.Completion.{port_completed}
+use Rattle.swd_port.specs.Becoming.{MayBecome}
 use Rattle.swd_port.specs.Port.{Port}
 use Rattle.swd_port.specs.Reached.{accesses_of_story, accesses_once_completed, story_before}
 use Rattle.swd_port.specs.Stories.{FitsStory, port_due_by, port_at}
@@ -22,7 +23,7 @@ use Rattle.swd_host.specs.declared.task.Bursts.{Bursts}
 use Rattle.swd_host.specs.Bursts.{bursts_limit}
 use Rattle.swd_host.proofs.GoingOn.{resumed_take_length}
 use Rattle.swd_steps.specs.Laws.{stepped_report}
-use Rattle.swd_steps.specs.Reached.{SteppedReaches, SteppedReachesBus, SteppedRunReaches}
+use Rattle.swd_steps.specs.Reached.{SteppedFirst, SteppedReaches, SteppedReachesBus, SteppedRunReaches}
 use Rattle.swd_steps.specs.Reached.{SteppedOpenReaches, SteppedResumeReaches}
 use Rattle.swd_steps.proofs.Reporting.{stepped_run_fits, stepped_open_fits, stepped_resume_fits}
 
@@ -150,8 +151,32 @@ stepped_open_reaches kind tries accesses calls run answers end small ran ended s
       powered_recording (earlier_accesses story calls past fits) (port_at story past) open_now.1,
     )))))
 
+-- a memory that a recording bus may become once the pending transfer has taken effect, or was given up
+record StartedFrom (before : List Access) (s : Port) (m : Bus) : Type 0 where
+  first : List Access
+  came : SteppedFirst s first
+  bus : Bus
+  is : m ≡ bus_recording (before ++ first) bus
+
+started_from : (before : List Access) (s : Port) (m : Bus) → MayBecome (port_recording before s) m
+    → StartedFrom before s m
+unfolding MayBecome
+started_from before s m (inl given) = record {
+  first = [];
+  came = inl (given.0, refl);
+  bus = s.target.memory;
+  is = given.1 ∙ ap (λ l. bus_recording l s.target.memory) (sym (append-nil before));
+}
+started_from before s m (inr (choice, legal, is)) = record {
+  first = accesses_once_completed choice s.target;
+  came = inr (choice, refl);
+  bus = (port_completed choice s).target.memory;
+  is = is ∙ ap (λ x. x.target.memory) (completed_recording before choice s);
+}
+
 -- the same for a run that resumes
 pub stepped_resume_reaches : SteppedResumeReaches
+unfolding MayBecome
 stepped_resume_reaches kind tries accesses calls run answers end earlier small ran ended story past fits known c legal =
     let told = resume_report (stepped_report run (earlier.answers ++ answers) end) earlier in
     let s = port_at story past in
@@ -168,17 +193,17 @@ stepped_resume_reaches kind tries accesses calls run answers end earlier small r
     (recorded story calls past fits) past (recorded_fits story (calls ++ past) fits)
     (subst (λ s. HostKnowsTarget s.target) (sym (begins_so story calls past fits))
     (known_recording before s known)))) in
-    let goes = h.goes (port_completed c (stops story calls past fits)).target.memory (c, legal, refl) in
-    let choice = goes.comes.0 in record {
+    let goes = h.goes (port_completed c (stops story calls past fits)).target.memory (inr (c, legal, refl)) in
+    let from : StartedFrom before s goes.before = started_from before s goes.before goes.comes in record {
       own = h.own;
       begun = h.begun;
-      choice = choice;
+      first = from.first;
+      came = from.came;
       reaches = reached_by_report 9 1 (drop (length earlier.answers) accesses) (resume_own_report earlier told h.own)
-          (before ++ accesses_once_completed choice s.target) (after ++ accesses_once_completed c t.target)
-          (port_completed choice s).target.memory (port_completed c t).target.memory
+          (before ++ from.first) (after ++ accesses_once_completed c t.target) from.bus
+          (port_completed c t).target.memory
           (subst (λ m. Fits 1 (drop (length earlier.answers) accesses) m (resume_own_report earlier told h.own)
-          (port_recording (after ++ accesses_once_completed c t.target) (port_completed c t)).target.memory)
-          (goes.comes.2 ∙ ap (λ x. x.target.memory) (completed_recording before choice s))
+          (port_recording (after ++ accesses_once_completed c t.target) (port_completed c t)).target.memory) from.is
           (subst (λ x. Fits 1 (drop (length earlier.answers) accesses) goes.before
           (resume_own_report earlier told h.own) x.target.memory) (completed_recording after c t) goes.fits));
     }

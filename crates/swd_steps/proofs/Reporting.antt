@@ -21,6 +21,7 @@ use Rattle.swd_host.specs.Progress.{engine_stray_left}
 use Rattle.swd_host.specs.Reports.{Closes, IsAtRest, HostKnowsTarget, RunFits, HostReport}
 use Rattle.swd_host.specs.OpenLists.{ListCloses, ListsWithin}
 use Rattle.swd_host.specs.Resuming.{resume_report}
+use Rattle.swd_host.specs.Confirming.{HostConfirms}
 use Rattle.swd_host.specs.Sent.{HostReportsCalls}
 use Rattle.swd_host.specs.Standing.{EngineDoes, EngineIsOpened, engine_report}
 use Rattle.swd_host.specs.Turns.{EngineIsNew, EngineWorks}
@@ -31,7 +32,7 @@ use Rattle.swd_host.specs.declared.outcome.Outcome.TheVariants.{Opened, Stopped}
 use Rattle.swd_host.specs.declared.task.Bursts.{Bursts}
 use Rattle.swd_host.proofs.Folding.{opening_closes, list_closes, engine_closes_equal, engine_requests_small}
 use Rattle.swd_host.proofs.Folding.{engine_report_matches, engine_turn_moves, list_report_closes, list_report_sent}
-use Rattle.swd_host.proofs.Folding.{list_runs_within}
+use Rattle.swd_host.proofs.Folding.{list_runs_within, list_confirms, list_sent_confirms}
 use Rattle.swd_host.proofs.Folding.{opening_counts}
 use Rattle.swd_host.proofs.Folding.{opening_stop_sent, opening_stops, list_fits, resume_stops, resume_performs}
 use Rattle.swd_steps.specs.declared.run.Run.{Run}
@@ -167,14 +168,43 @@ closed_by true how list calls e answers end is small short (performed o early la
           (port_due_by calls) short small closes late tells),
     )
 
+-- what is confirmed before the next write, whatever came back
+confirms_by : (opened : Bool) (how : SteppedSetup) (list : List Access) (calls : List Call) (e : Engine)
+    (answers : List Answer) (end : End) → how.opened ≡ opened → SteppedAtEnd nothing_yet [] how list calls e answers end
+    → HostConfirms how.kind calls
+confirms_by false how list calls e answers end is (never_opened h at none) =
+    let new : EngineIsNew how.kind how.again how.tries h.first = subst (λ b. SteppedBeginsBy b how h.first) is h.new in
+    subst (λ b. HostConfirms b calls) (h.went.works.bursts ∙ new.bursts)
+    (opening_stop_sent list how.kind how.again how.tries h.first e end calls new h.went.turns at).confirms
+confirms_by false how list calls e answers end is (performed o early late parts h at performs does tells) =
+    let new : EngineIsNew how.kind how.again how.tries h.first = subst (λ b. SteppedBeginsBy b how h.first) is h.new in
+    subst (HostConfirms how.kind) (sym parts)
+    (list_confirms list how.kind o e [] answers end early late (h.went.works.bursts ∙ new.bursts)
+    (opening_counts list how.kind how.again how.tries h.first o early new h.went.turns at) tells)
+confirms_by true how list calls e answers end is (never_opened h at none) =
+    absurd (open_goes_on how.kind how.tries h.first e end (subst (λ b. SteppedBeginsBy b how h.first) is h.new)
+    h.went.works at)
+confirms_by true how list calls e answers end is (performed o early late parts h at performs does tells) =
+    let first : EngineIsOpened how.kind how.tries h.first = subst (λ b. SteppedBeginsBy b how h.first) is h.new in
+    let opened : EngineIsOpened how.kind how.tries o =
+    subst (EngineIsOpened how.kind how.tries) (sym (stepped_opened_same how.kind how.tries h.first o first
+    h.went.works)) first in
+    let none : early ≡ [] =
+    open_no_calls h.first early o (stepped_opened_rests how.kind how.tries h.first first) h.went.turns in
+    subst (HostConfirms how.kind) (sym (parts ∙ (ap (λ l. late ++ l) none ∙ append-nil late)))
+    (list_sent_confirms how.kind how.tries list o e [] answers end (engine_report answers e end) opened refl late tells)
+
 -- whatever came back, the report of a run that ended has what every report has, and matches the calls that were made
 pub stepped_always_closes : SteppedAlwaysCloses
 stepped_always_closes how accesses calls run answers end small ran ended =
+    let at = finished how accesses calls run answers end small ran ended nothing_yet [] (λ new. refl) (λ ready. refl) in
     let both = closed_by how.opened how (drop how.from accesses) calls run.engine answers end refl small
-    (few how accesses calls run answers end small ran ended)
-    (finished how accesses calls run answers end small ran ended nothing_yet [] (λ new. refl)
-    (λ ready. refl)) in
-    record { closes = both.0; sent = both.1 }
+    (few how accesses calls run answers end small ran ended) at in
+    record {
+      closes = both.0;
+      sent = both.1;
+      confirms = confirms_by how.opened how (drop how.from accesses) calls run.engine answers end refl at;
+    }
 
 -- WHERE WHAT CAME BACK FITS A STORY
 runs_by : (how : SteppedSetup) (list : List Access) (calls : List Call) (e : Engine) (answers : List Answer) (end : End)

@@ -11,6 +11,7 @@ use Rattle.swd_host.specs.declared.outcome.End.{End}
 use Rattle.swd_host.specs.declared.outcome.Outcome.TheVariants.{Stopped}
 use Rattle.swd_host.specs.declared.task.Bursts.{Bursts}
 use Rattle.swd_host.specs.Again.{ResumesOver}
+use Rattle.swd_host.specs.Confirming.{HostConfirms}
 use Rattle.swd_host.specs.Fields.{engine_outcome_fields}
 use Rattle.swd_host.specs.Progress.{engine_stray_left}
 use Rattle.swd_host.specs.Reports.{Closes, RunsWithin, HostReport}
@@ -40,6 +41,8 @@ pub record SteppedCloses (how : SteppedSetup) (list : List Access) (calls : List
   where
     pub closes : SteppedReportCloses how.opened how list report (port_due_by calls)
     pub sent : HostReportsCalls list report calls
+    -- without bursts of writes each DRW write is confirmed before the next write of an access port is asked
+    pub confirms : HostConfirms how.kind calls
 
 abbrev pub SteppedAlwaysCloses : Type 0
 SteppedAlwaysCloses = (how : SteppedSetup) (accesses : List Access) (calls : List Call) (run : Run)

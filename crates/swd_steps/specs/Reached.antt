@@ -1,12 +1,13 @@
 -- Which accesses reach the bus in a run, bus errors among them. The theorem of a run equates buses, and a bus may
 -- ignore an access that is a bus error. So this is stated of the accesses themselves.
-use Rattle.std.specs.Prelude.{ℕ, ◌≡◌, ◌+◌, ◌<◌, ◌≤◌, ◌^◌, ◌++◌, List, length, drop, take}
+use Rattle.std.specs.Prelude.{ℕ, ◌≡◌, ◌+◌, ◌<◌, ◌≤◌, ◌^◌, ◌++◌, ◌⊎◌, true, List, [], length, drop, take}
 use Rattle.swd_port.specs.declared.access.Access.{Access}
 use Rattle.swd_port.specs.declared.access.Answer.{Answer}
 use Rattle.swd_port.specs.declared.call.Call.{Call}
 use Rattle.swd_port.specs.declared.wire.Due.TheVariants.{Nothing}
 use Rattle.swd_port.specs.Choices.{Choice, IsPortChoice}
 use Rattle.swd_port.specs.Port.{Port}
+use Rattle.swd_port.specs.Asking.{is_pending_write}
 use Rattle.swd_port.specs.Reached.{accesses_of_story, accesses_once_completed, story_before}
 use Rattle.swd_port.specs.Stories.{FitsStory, port_due_by, port_at}
 use Rattle.swd_host.specs.declared.outcome.End.{End}
@@ -50,15 +51,22 @@ SteppedRunReaches = (kind : Bursts) (tries : ℕ) → SteppedReachesAfter (stepp
 abbrev pub SteppedOpenReaches : Type 0
 SteppedOpenReaches = (kind : Bursts) (tries : ℕ) → SteppedReachesAfter (stepped_opened kind tries) HostIsOpen
 
+-- the accesses by which the transfer that is pending at a port reached the bus
+abbrev pub SteppedFirst : Port → List Access → Type 0
+SteppedFirst s first = ((is_pending_write s.target.pending ≡ true) × (first ≡ []))
+    ⊎ ((choice : Choice) × (first ≡ accesses_once_completed choice s.target))
+
 -- The accesses of a run that resumed: first the transfer that was pending at the port s, if any, then those of the rest
 -- of the list. `own` accesses that this run started are unanswered.
 pub record SteppedResumeReachesBus (list : List Access) (earlier told : HostReport) (s : Port)
     (before after : List Access) : Type 0 where
   pub own : ℕ
   pub begun : told.begun ≡ resume_begun earlier told own
-  pub choice : Choice
+  -- what the transfer that was pending did: nothing, where it is a write that was given up
+  pub first : List Access
+  pub came : SteppedFirst s first
   pub reaches : SteppedReaches (drop (length earlier.answers) list) (resume_own_report earlier told own)
-      (before ++ accesses_once_completed choice s.target) after
+      (before ++ first) after
 
 -- In a run that resumes, once a transfer that is still pending has taken effect.
 abbrev pub SteppedResumeReaches : Type 0

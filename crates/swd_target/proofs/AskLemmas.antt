@@ -247,7 +247,8 @@ simulated_answers_deaf bus q s =
 -- a request keeps the law of the wire
 pub simulated_asks_lawful : (mark : Mark) (s : Port) (q : Request) (seen : ℕ) (t : Port)
     → TargetAsksUnder mark s q seen t → PortAsks s q seen t
-simulated_asks_lawful mark s q seen t (a, b, c, before, now, later) = (a, b, mark, c, before, now, later)
+simulated_asks_lawful mark s q seen t (a, b, c, before, now, later) =
+    (a, a, b, mark, c, before, inl refl, now, later)
 
 -- the same for a bench, from what it has after the request
 pub bench_asks_lawful : {D : Type 0} (bus : D → Bus) (mark : Mark) (q : Request) (s t : Target D) (reply : Reply)

@@ -7,3 +7,4 @@ pub mod ReplyLemmas
 pub mod FlagLemmas
 pub mod FieldsLemmas
 pub mod ElsewhereLemmas
+pub mod GivingLemmas

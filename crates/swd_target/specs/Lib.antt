@@ -12,3 +12,5 @@ pub mod Devices
 pub mod Requests
 pub mod Benches
 pub mod Stepping
+pub mod Giving
+pub mod Buffered

@@ -3,11 +3,11 @@ ghost use Rattle.std.specs.Prelude.{◌≡◌, ◌<◌, ◌^◌};
 ghost use Rattle.swd_port.specs.declared.cue.Cue.TheVariants.{Ask};
 ghost use Rattle.swd_port.specs.declared.wire.Due.TheVariants.{Nothing, Take, Give, Pass};
 ghost use Rattle.swd_port.specs.Stories.{PortMayStep, IsPortSeen, IsPortStep};
-ghost use Rattle.swd_port.specs.Port.{port_idle_link};
+ghost use Rattle.swd_port.specs.Port.{PortTally, port_idle_link};
 ghost use Rattle.swd_port.specs.Made.{port_made};
 ghost use Rattle.swd_port.specs.PlainBus.{bus_of};
 ghost use Rattle.swd_port.specs.Completion.{port_completed};
-ghost use Rattle.swd_port.specs.Asking.{PortAsks, port_tally_after};
+ghost use Rattle.swd_port.specs.Asking.{PortAsks, PortKeepsOrGivesUp, port_tally_after};
 ghost use Rattle.swd_port.specs.Leading.{PortLeadsNow};
 ghost use Rattle.swd_port.specs.Moving.{PortTakes, PortTakesNow, PortGives, PortPasses, PortPassesNow};
 ghost use Rattle.swd_port.specs.Moving.{port_bits_driven};
@@ -25,7 +25,7 @@ use crate::quirks::Quirks;
 use crate::target::Target;
 use std::alloc::{Allocator, Global};
 use swd_bits::Request;
-use swd_port::{AfterAck, Cue, Due, Mark, Wire};
+use swd_port::{AfterAck, Cue, Due, Mark, Register, Wire};
 
 /// A simulated target as a [`Wire`]. Each request uses the next mark of the plan; after its end all marks are `Clean`.
 /// DPIDR reads 2ba01477.
@@ -54,6 +54,9 @@ pub struct Bench<D, A: Allocator = Global> {
 impl<D: Device, A: Allocator> Bench<D, A> {
     ghost use Rattle.swd_target.specs.Benches.{bench_port, bench_link, bench_tally, bench_simulation, bench_plan};
     ghost use Rattle.swd_target.specs.Benches.{bench_choice, bench_next_mark};
+    ghost use Rattle.swd_target.specs.Targets.{target_state};
+    ghost use Rattle.swd_target.specs.Requests.{target_port_at, TargetAsksUnder};
+    ghost use Rattle.swd_target.specs.Giving.{is_giving_up, simulation_giving, tally_given};
     ghost use Rattle.swd_target.specs.Stepping.{simulation_led, simulation_given, simulation_seen_at_cue};
     ghost use Rattle.swd_target.specs.Stepping.{simulation_after_cue, simulation_link_at_cue};
 
@@ -90,7 +93,7 @@ impl<D: Device, A: Allocator> Bench<D, A> {
     }
 
     // Performs a line reset if there are ones. Neither the sixteen bits of the switch nor zeros change the target.
-    fn lead_now(&mut self, ones: u32)
+    pub(crate) fn lead_now(&mut self, ones: u32)
         ensures now { PortLeadsNow (bench_port D.bus self.old) ones (bench_port D.bus self.new) }
         ensures exact { bench_simulation D.bus self.new
             ≡ simulation_led ones (bench_link self.old) (bench_simulation D.bus self.old) }
@@ -103,12 +106,45 @@ impl<D: Device, A: Allocator> Bench<D, A> {
         }
     }
 
+    // Gives up the pending write, if the next request can't wait for it and the target sees it. Returns whether it did.
+    pub(crate) fn give_up_before(&mut self, request: Request) -> bool
+        ensures gives { (n : PortTally) → PortKeepsOrGivesUp (bench_next_mark self.old) request
+            (target_port_at (bench_link self.old) n (target_state D.bus self.old.target))
+            (target_port_at (bench_link self.old) (tally_given result n) (target_state D.bus self.new.target)) }
+        ensures exact { bench_simulation D.bus self.new
+            ≡ simulation_giving (bench_next_mark self.old) request (bench_simulation D.bus self.old) }
+        ensures link { bench_link self.new ≡ bench_link self.old }
+        ensures tally { bench_tally self.new ≡ bench_tally self.old }
+        ensures plan { bench_plan self.new ≡ bench_plan self.old }
+    {
+        if self.is_giving_up(request) {
+            self.target.give_up();
+            return true;
+        }
+        false
+    }
+
+    // Returns whether the next request gives the pending write up.
+    fn is_giving_up(&self, request: Request) -> bool
+        ensures { result ≡ is_giving_up (bench_next_mark self.now) request (target_state D.bus self.now.target) }
+    {
+        let register = Register::named(self.target.select, request);
+        match self.plan.next_mark() {
+            Mark::Deaf => false,
+            _ => self.target.is_giving_up(register),
+        }
+    }
+
     // Performs a request under the next mark.
     #[inline(always)]
-    fn ask_now(&mut self, request: Request) -> u8
+    pub(crate) fn ask_now(&mut self, request: Request) -> u8
         requires { (bench_port D.bus self.old).link.due ≡ Nothing }
         ensures range { result < 8 }
         ensures step { PortAsks (bench_port D.bus self.old) request result (bench_port D.bus self.new) }
+        ensures any { (n : PortTally) → TargetAsksUnder (bench_next_mark self.old)
+            (target_port_at (bench_link self.old) n (target_state D.bus self.old.target)) request result
+            (target_port_at (bench_link self.new) (port_tally_after (bench_next_mark self.old) n)
+            (target_state D.bus self.new.target)) }
         ensures sees { result ≡ simulation_seen_at_cue (bench_next_mark self.old) (Ask request) (bench_link self.old)
             (bench_simulation D.bus self.old) }
         ensures exact { bench_simulation D.bus self.new
@@ -130,7 +166,7 @@ impl<D: Device, A: Allocator> Bench<D, A> {
 
     // Returns the data phase of a read.
     #[inline(always)]
-    fn take_now(&mut self) -> u64
+    pub(crate) fn take_now(&mut self) -> u64
         requires { (bench_port D.bus self.old).link.due ≡ Take }
         ensures range { result < 2 ^ 33 }
         ensures step { PortTakes (bench_port D.bus self.old) result (bench_port D.bus self.new) }
@@ -146,10 +182,13 @@ impl<D: Device, A: Allocator> Bench<D, A> {
 
     // Takes the data phase of a write.
     #[inline(always)]
-    fn give_now(&mut self, bits: u64)
+    pub(crate) fn give_now(&mut self, bits: u64)
         requires due { (bench_port D.bus self.old).link.due ≡ Give }
         requires range { bits < 2 ^ 33 }
         ensures step { PortGives (bench_port D.bus self.old) bits (bench_port D.bus self.new) }
+        ensures any { (n : PortTally) → PortGives
+            (target_port_at (bench_link self.old) n (target_state D.bus self.old.target)) bits
+            (target_port_at port_idle_link n (target_state D.bus self.new.target)) }
         ensures link { bench_link self.new ≡ port_idle_link }
         ensures tally { bench_tally self.new ≡ bench_tally self.old }
         ensures exact { bench_simulation D.bus self.new
@@ -163,7 +202,7 @@ impl<D: Device, A: Allocator> Bench<D, A> {
 
     // Passes the turnaround after WAIT or FAULT, which doesn't change the target.
     #[inline(always)]
-    fn pass_now(&mut self)
+    pub(crate) fn pass_now(&mut self)
         requires { (bench_port D.bus self.old).link.due ≡ Pass }
         ensures step { PortPasses (bench_port D.bus self.old) (bench_port D.bus self.new) }
         ensures now { PortPassesNow (bench_port D.bus self.old) (bench_port D.bus self.new) }

@@ -3,6 +3,7 @@
 
 mod acknowledgement;
 mod bench;
+mod buffered;
 mod content;
 mod device;
 mod fields;
@@ -20,6 +21,7 @@ mod window;
 mod words;
 
 pub use bench::Bench;
+pub use buffered::BufferedBench;
 pub use device::Device;
 pub use fields::{ContentFields, PendingFields, TargetFields};
 pub use memory::{MakeFault, Memory};

@@ -515,6 +515,7 @@ impl<D: Device> Target<D> {
 // error.
 impl<D: Device> Target<D> {
     ghost use Rattle.swd_target.specs.Targets.{target_state, target_simulation, TargetFails, target_settles_first};
+    ghost use Rattle.swd_target.specs.Giving.{is_giving_up_at, state_without_write};
     ghost use Rattle.swd_target.specs.Requests.{TargetTransfers};
 
     // Returns the content of a register whose value is unknown.
@@ -544,6 +545,27 @@ impl<D: Device> Target<D> {
         if !self.quirks.late {
             self.complete();
         }
+    }
+
+    // Returns whether the pending write would be given up before this request, if the target sees it.
+    pub(crate) fn is_giving_up(&self, register: Register) -> bool
+        ensures { result ≡ is_giving_up_at register (target_state D.bus self.now) }
+    {
+        match self.pending {
+            Some(Drw::Writes(_)) => register.is_exempt() && self.is_answering(register),
+            Some(Drw::Reads) | None => false,
+        }
+    }
+
+    // Gives up the pending write: it reaches no bus, and WDATAERR is set.
+    pub(crate) fn give_up(&mut self)
+        ensures state { target_state D.bus self.new ≡ state_without_write (target_state D.bus self.old) }
+        ensures exact { target_simulation D.bus self.new ≡ record (target_simulation D.bus self.old) {
+          state = state_without_write (target_simulation D.bus self.old).state;
+        } }
+    {
+        self.write_error = true;
+        self.pending = None;
     }
 
     // Returns whether the pending transfer would be a bus error.

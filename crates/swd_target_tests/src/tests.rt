@@ -1,4 +1,5 @@
 //! Worked requests at a target, and worked cycles at a clocked target and at its bench.
+mod buffered;
 mod cores;
 mod cycle_texts;
 mod cycles;

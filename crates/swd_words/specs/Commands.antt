@@ -77,7 +77,7 @@ file_rules = place_rule (codes "FILE") false ∷ []
 
 abbrev pub decode_rules : List Rule
 decode_rules = file_rules ++ flag_rule (codes "places") ∷ flag_rule (codes "names") ∷ flag_rule (codes "count")
-    ∷ flag_rule (codes "accesses") ∷ flag_rule (codes "made") ∷ flag_rule (codes "resync")
+    ∷ flag_rule (codes "accesses") ∷ flag_rule (codes "made") ∷ flag_rule (codes "rest") ∷ flag_rule (codes "resync")
     ∷ flag_rule (codes "overrun") ∷ []
 
 -- with the most items of a drawing: 1 to 1,000, and 200 without the option
@@ -109,7 +109,8 @@ core_rules = place_rule (codes "ACTION") true ∷ places_rule (codes "NAME") ∷
     ∷ flag_rule (codes "script") ∷ tries_rule ∷ resume_rule ∷ value_rule (codes "trace") ∷ lead_rules
 
 abbrev pub conform_rules : List Rule
-conform_rules = lead_rules ++ plain_rule ∷ value_rule (codes "hole") ∷ flag_rule (codes "clean") ∷ []
+conform_rules = lead_rules ++ plain_rule ∷ value_rule (codes "hole") ∷ value_rule (codes "steps")
+    ∷ flag_rule (codes "clean") ∷ []
 
 -- the options of each command over an image, after its places: the format, the limits, the report, the progress, and
 -- the target, which is remote, or simulated
@@ -165,8 +166,10 @@ pub record AreDecodeArguments (decode : DecodeLine) (rows : List Row) : Type 0 w
   pub count : (decode.count ≡ true) ↔ (first_of (codes "count") rows ≡ Some (codes "true"))
   pub accesses : (decode.accesses ≡ true) ↔ (first_of (codes "accesses") rows ≡ Some (codes "true"))
   pub made : (decode.made ≡ true) ↔ (first_of (codes "made") rows ≡ Some (codes "true"))
+  pub rest : (decode.rest ≡ true) ↔ (first_of (codes "rest") rows ≡ Some (codes "true"))
   pub resync : (decode.resync ≡ true) ↔ (first_of (codes "resync") rows ≡ Some (codes "true"))
   pub overrun : (decode.overrun ≡ true) ↔ (first_of (codes "overrun") rows ≡ Some (codes "true"))
+  pub one_start : decode.made ≡ true → decode.rest ≡ false
 
 -- the most items of a drawing are those of the argument, at most 1,000; 200 without an argument
 abbrev pub IsItemsArgument : ℕ → Option Text → Type 0
@@ -345,13 +348,13 @@ IsSizeArgument size (Some text) = (Some size ≡ script_decimal_number text) × 
 pub record AreProbeArguments (target : TargetLine) (rows : List Row) : Type 0 where
   pub arguments : AreTargetArguments target rows
   pub size : ℕ
-  pub packets : target.packets ≡ Some size
+  pub packet_size : target.packet_size ≡ Some size
   pub sized : IsSizeArgument size (first_of (codes "size") rows)
 
 -- a target that is served by characters, or one by packets
 abbrev pub IsServedLine : TargetLine → Text → List Row → Type 0
 IsServedLine target name rows =
-    ((name ≡ codes "target") × AreTargetArguments target rows × (target.packets ≡ None))
+    ((name ≡ codes "target") × AreTargetArguments target rows × (target.packet_size ≡ None))
     ⊎ ((name ≡ codes "probe") × AreProbeArguments target rows)
 
 -- the word that names what is done at a core
@@ -380,11 +383,12 @@ pub record AreCoreArguments (core : CoreLine) (rows : List Row) : Type 0 where
   pub alone : core.run.accesses ≡ None
   pub unchecked : core.run.check ≡ false
 
--- what leads to the remote target, the one memory, the address without memory, and the flag
+-- what leads to the remote target, the one memory, the address without memory, the file of the steps, and the flag
 pub record AreConformArguments (conform : ConformLine) (rows : List Row) : Type 0 where
   pub remote : AreLeadArguments (Some (string_bytes conform.remote)) conform.probe rows
   pub plain : ArePlainArguments (conform.plain ∷ []) (unwrap_or (all_of (codes "plain") rows) [])
   pub hole : IsIdrArgument conform.hole (first_of (codes "hole") rows)
+  pub steps : option_map string_bytes conform.steps ≡ first_of (codes "steps") rows
   pub clean : (conform.clean ≡ true) ↔ (first_of (codes "clean") rows ≡ Some (codes "true"))
 
 -- One of --remote and --probe, or --memory is given: the target is remote, or has this memory. Only with --memory there

@@ -5,6 +5,7 @@ ghost use Rattle.swd_command_line.specs.declared.command.PlainWords.{PlainWords}
 ghost use Rattle.swd_words.specs.Commands.{AreCheckArguments, ArePlainArguments, IsPlainArgument};
 
 use crate::argument::{Argument, CommandRow, Form};
+use crate::decode_words::TWO_STARTS;
 use crate::fault::LineFault;
 use crate::words::{FILE, invalid, is_set, refused, text_in};
 use clap::ArgMatches;
@@ -40,11 +41,10 @@ With --plain WORDS words from BASE on are memory: each has the word that was
 written to it last, and no access to it is a bus error. BASE is 1 to 8
 hexadecimal digits, after an optional 0x, and a multiple of 4. WORDS is decimal.
 
---resync and --overrun are as for swd decode. --overrun has --resync in it.
+--resync and --overrun are as for swd decode. --overrun has --resync in it. The
+transaction directly before skipped bits belongs to the gap, and isn't checked.
 
 Status: 0 fits, 1 breaks, 2 crowded, outside or an error.";
-
-const TWO_STARTS: &str = "--made goes without --rest";
 
 const PLAIN_OPTION: &str = "--plain <BASE> <WORDS>";
 

@@ -8,7 +8,7 @@ use crate::check_words::{CLEAN, plain_in};
 use crate::fault::LineFault;
 use crate::lead_words::{FRAMED, PROBE, REMOTE, SPEED, lead_in};
 use crate::target_words::idr_in;
-use crate::words::{invalid, is_set, refused};
+use crate::words::{invalid, is_set, refused, text_in};
 use clap::ArgMatches;
 use clap::error::ErrorKind;
 use std::alloc::Global;
@@ -37,6 +37,24 @@ Lines on standard error say how many requests and clocks were sent, and what was
 not reached: WAIT, if the port never answered it, and damage on the line. It
 ends early, undecided, where a request gets WAIT 64 times, or 32 reads of
 CTRL/STAT, 100 clocks apart, don't acknowledge both powers.
+
+With --steps the requests are those of FILE, at most 2,000 steps, in paragraphs:
+  # RULE             what they try; a line on standard error names it if the run
+                     ended there
+  needs hole         the next send is left out without --hole; or: needs page,
+                     needs kilobyte, where no end of 256 bytes, or of a
+                     kilobyte, is in the memory
+  first STEP ..      send is repeated with each of these in place of 1,
+  second STEP ..     and with each of these in place of 2
+  send STEP ..       sends these steps
+A step is a read, dpidr, ctrl/stat, resend, rdbuff, csw, tar, ap-8 or drw; a
+write of abort, ctrl/stat, select, dp-c, csw, tar, ap-8 or drw: tar=W, tar=!W
+with wrong parity, tar=cut with a line reset in place of its data phase; a
+request that is sent once, also where it is not answered, tar? or tar=0?; reset,
+a line reset; or power, reads of CTRL/STAT until both powers are acknowledged.
+W is hexadecimal; memory, page or kilobyte, the address of the first word, or of
+the last word of 256 bytes or of a kilobyte, or such an address and bytes, as
+memory+4 or kilobyte-4; hole; or fresh, another word each time.
 
 Status: 0 fits; 1 breaks, or a transfer at ADDR was no bus error; 2 crowded, an
 error, the other end went away, the port answered no request, or it ended
@@ -71,6 +89,11 @@ pub(crate) const CONFORM: CommandRow = CommandRow {
             form: Form::Value("ADDR"),
             help: "There is no memory at ADDR, hexadecimal",
         },
+        Argument {
+            name: "steps",
+            form: Form::Value("FILE"),
+            help: "Send the steps of FILE in place of these requests",
+        },
         CLEAN,
     ],
 };
@@ -93,6 +116,7 @@ pub(crate) fn conform_line(
         let kind = ErrorKind::InvalidValue;
         return Err(invalid(alloc, kind, given, "--hole <ADDR>", HOLE_FORM));
     };
+    let steps = text_in(alloc, matches, "steps")?;
     let clean = is_set(matches, "clean");
     let plain = match plain_in(alloc, matches) {
         Ok(plain) => plain,
@@ -107,6 +131,7 @@ pub(crate) fn conform_line(
         probe,
         plain,
         hole,
+        steps,
         clean,
     })
 }

@@ -1,5 +1,5 @@
 //! The arguments of `swd decode`.
-ghost use Rattle.std.specs.Prelude.{IfOk};
+ghost use Rattle.std.specs.Prelude.{◌≡◌, false, IfOk, None, true};
 ghost use Rattle.clap.specs.Words.{found_of, rows_of};
 ghost use Rattle.swd_words.specs.Commands.{AreDecodeArguments};
 
@@ -36,10 +36,11 @@ With --accesses there is a line for each access of the target's memory, with the
 place of its request, if the target conforms to the port model:
   @590 w 20000000 deadbeef      took effect, once
   @787 w 20000000 deadbeef may  took effect once or not at all: not shown
-  @925 r 30000000 ???????? not  met a bus error, or its data was corrupted
+  @925 r 30000000 ???????? not  met a bus error, or never reached the bus
   @990 gap                      stray bits from here, which may hide accesses
 ????????: the trace doesn't show this address or word. Give --made if the trace
-begins with the target in its reset state; without it the state is unknown.
+begins with the target in its reset state, or --rest if it begins in mid-session
+where SELECT is 0 and nothing is pending; without them the state is unknown.
 FAULT alone shows nothing: not wants a read of CTRL/STAT with the error's flag.
 A line is printed once the transaction after the one that decides it is read.
 
@@ -57,6 +58,11 @@ const COUNT_ALONE: &str = "--count goes with neither --places nor --names";
 const ACCESSES_ALONE: &str = "--accesses goes with none of --places, --names and --count";
 
 const MADE_WITH_ACCESSES: &str = "--made goes with --accesses";
+
+const REST_WITH_ACCESSES: &str = "--rest goes with --accesses";
+
+/// What is said where `--made` and `--rest` stand together.
+pub(crate) const TWO_STARTS: &str = "--made goes without --rest";
 
 /// What is said where `--overrun` stands alone.
 pub(crate) const OVERRUN_WITH_RESYNC: &str = "--overrun goes with --resync";
@@ -96,6 +102,13 @@ const MADE: Argument = Argument {
     help: "With --accesses: the target begins in its reset state",
 };
 
+// Whether the target begins at rest.
+const REST: Argument = Argument {
+    name: "rest",
+    form: Form::Flag,
+    help: "With --accesses: SELECT is 0, nothing is pending at first",
+};
+
 /// Whether the trace may begin in mid-session and lose bits.
 pub(crate) const RESYNC: Argument = Argument {
     name: "resync",
@@ -115,44 +128,54 @@ pub(crate) const DECODE: CommandRow = CommandRow {
     name: "decode",
     about: "Decode a trace to a listing, one line an item",
     after: Some(DECODE_AFTER),
-    arguments: &[FILE, PLACES, NAMES, COUNT, ACCESSES, MADE, RESYNC, OVERRUN],
+    arguments: &[
+        FILE, PLACES, NAMES, COUNT, ACCESSES, MADE, REST, RESYNC, OVERRUN,
+    ],
 };
+
+// Returns what is said of flags that exclude each other, or of one without the one that it needs. `None`: nothing is.
+fn clash(decode: &DecodeLine) -> Option<(ErrorKind, &'static str)>
+    ensures { result ≡ None → decode.now.made ≡ true → decode.now.rest ≡ false }
+{
+    if decode.count && (decode.places || decode.names) {
+        return Some((ErrorKind::ArgumentConflict, COUNT_ALONE));
+    }
+    if decode.accesses && (decode.places || decode.names || decode.count) {
+        return Some((ErrorKind::ArgumentConflict, ACCESSES_ALONE));
+    }
+    if decode.made && !decode.accesses {
+        return Some((ErrorKind::MissingRequiredArgument, MADE_WITH_ACCESSES));
+    }
+    if decode.rest && !decode.accesses {
+        return Some((ErrorKind::MissingRequiredArgument, REST_WITH_ACCESSES));
+    }
+    if decode.overrun && !decode.resync {
+        return Some((ErrorKind::MissingRequiredArgument, OVERRUN_WITH_RESYNC));
+    }
+    if decode.made && decode.rest {
+        return Some((ErrorKind::ArgumentConflict, TWO_STARTS));
+    }
+    None
+}
 
 /// Returns the arguments of `swd decode`. Rejects flags that exclude each other, and a flag without the one that it
 /// needs.
 pub(crate) fn decode_line(alloc: Global, matches: &ArgMatches<'_>) -> Result<DecodeLine, LineFault>
     ensures { IfOk result (λ decode. AreDecodeArguments decode (rows_of (found_of matches.now))) }
 {
-    let places = is_set(matches, "places");
-    let names = is_set(matches, "names");
-    let count = is_set(matches, "count");
-    let accesses = is_set(matches, "accesses");
-    let made = is_set(matches, "made");
-    let resync = is_set(matches, "resync");
-    let overrun = is_set(matches, "overrun");
-    if count && (places || names) {
-        return Err(refused(alloc, ErrorKind::ArgumentConflict, COUNT_ALONE));
+    let decode = DecodeLine {
+        file: text_in(alloc, matches, "FILE")?,
+        places: is_set(matches, "places"),
+        names: is_set(matches, "names"),
+        count: is_set(matches, "count"),
+        accesses: is_set(matches, "accesses"),
+        made: is_set(matches, "made"),
+        rest: is_set(matches, "rest"),
+        resync: is_set(matches, "resync"),
+        overrun: is_set(matches, "overrun"),
+    };
+    match clash(&decode) {
+        Some((kind, why)) => Err(refused(alloc, kind, why)),
+        None => Ok(decode),
     }
-    if accesses && (places || names || count) {
-        return Err(refused(alloc, ErrorKind::ArgumentConflict, ACCESSES_ALONE));
-    }
-    if made && !accesses {
-        let kind = ErrorKind::MissingRequiredArgument;
-        return Err(refused(alloc, kind, MADE_WITH_ACCESSES));
-    }
-    if overrun && !resync {
-        let kind = ErrorKind::MissingRequiredArgument;
-        return Err(refused(alloc, kind, OVERRUN_WITH_RESYNC));
-    }
-    let file = text_in(alloc, matches, "FILE")?;
-    Ok(DecodeLine {
-        file,
-        places,
-        names,
-        count,
-        accesses,
-        made,
-        resync,
-        overrun,
-    })
 }

@@ -57,11 +57,14 @@ and so has its reply, as with --framed of swd run. Over two fifos:
   swd probe memory.script <there >back &
   swd info --probe=back,there --framed
 
-A packet is at most N bytes long, 64 to 512. One that is malformed, or whose
-reply might be longer, is answered with its command and ff, and makes no clock.
+The host is told that packets have N bytes, 64 to 512. Any packet of at most 512
+is performed whose reply has at most N. One that is malformed, or whose reply
+might be longer, is answered with its command and ff, and makes no clock; an
+unknown command, and a packet of no bytes, with ff alone. DAP_TransferAbort has
+no reply. A longer packet ends the session.
 
-Status: 0 if the session ended by the end of the input, and each packet was
-answered, 2 at an error.";
+Status: 0 if the session ended by the end of the input, after a whole packet,
+and each reply was written, 2 at an error.";
 
 const SIZE_OPTION: &str = "--size <N>";
 
@@ -103,11 +106,11 @@ const IDR: Argument = Argument {
     help: "IDR of the access port, hexadecimal; else 0",
 };
 
-// The most bytes of a packet.
+// The size of packets that the host is told.
 const SIZE: Argument = Argument {
     name: "size",
     form: Form::Value("N"),
-    help: "The most bytes of a packet, 64 to 512; else 64",
+    help: "Packet size that the host is told, 64 to 512; else 64",
 };
 
 /// The command `target`.
@@ -162,7 +165,7 @@ pub(crate) fn idr_in(word: Option<&str>) -> Option<Option<u32>>
 /// Returns the arguments of `swd target`.
 pub(crate) fn target_line(alloc: Global, matches: &ArgMatches<'_>) -> Result<TargetLine, LineFault>
     ensures arguments { IfOk result (λ target. AreTargetArguments target (rows_of (found_of matches.now))) }
-    ensures characters { IfOk result (λ target. target.packets ≡ None) }
+    ensures characters { IfOk result (λ target. target.packet_size ≡ None) }
 {
     let memory = served_memory(alloc, matches)?;
     let given = matches.get_str("idr");
@@ -177,11 +180,11 @@ pub(crate) fn target_line(alloc: Global, matches: &ArgMatches<'_>) -> Result<Tar
         log,
         trace,
         idr,
-        packets: None,
+        packet_size: None,
     })
 }
 
-// Returns the most bytes of a packet, 64 without an argument. Returns `None` if it isn't one of 64 to 512.
+// Returns the size of packets, 64 without an argument. Returns `None` if it isn't one of 64 to 512.
 fn size_in(word: Option<&str>) -> Option<u32>
     ensures { IfSome result (λ size. IsSizeArgument size (option_map (λ s. s.now) word.entry)) }
 {
@@ -205,7 +208,7 @@ pub(crate) fn probe_line(alloc: Global, matches: &ArgMatches<'_>) -> Result<Targ
     };
     let target = target_line(alloc, matches)?;
     Ok(TargetLine {
-        packets: Some(size),
+        packet_size: Some(size),
         ..target
     })
 }

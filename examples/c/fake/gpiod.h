@@ -1,6 +1,6 @@
 /*
- * What pins_gpiod.c calls of libgpiod 2, or with FAKE_GPIOD_1 of libgpiod 1.6, as their headers declare it, for machines
- * without them.
+ * What pins_gpiod.c calls of libgpiod 2, or with FAKE_GPIOD_1 of libgpiod 1.6, as their headers declare it, for
+ * machines without them.
  */
 #ifndef FAKE_GPIOD_H
 #define FAKE_GPIOD_H

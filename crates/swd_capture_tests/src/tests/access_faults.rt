@@ -7,6 +7,7 @@ use std::test::Fail;
 use swd_capture::Printed;
 use swd_capture_text::{Reading, print_capture};
 use swd_fakes::{FailingReader, OneByteReader, OneByteWriter, ShortWriter};
+use swd_observer::TraceStart;
 use swd_text::{DecodeFault, TextFault};
 
 const LISTING: &[u8] =
@@ -14,13 +15,13 @@ const LISTING: &[u8] =
 
 const TOLD: &[u8] = b"@0 w 00000000 00000001\n@46 w 00000000 00000002 may\n@104 gap\n";
 
-// Writes the lines of what a trace tells, of a target that was just made or not.
+// Writes the lines of what a trace tells, of a target that begins so.
 fn observe<R: Read, W: Write>(
     reader: &mut R,
     writer: &mut W,
-    made: bool,
+    start: TraceStart,
 ) -> Result<(), DecodeFault> {
-    print_capture(Reading::Trace, Printed::Accesses { made }, reader, writer)
+    print_capture(Reading::Trace, Printed::Accesses { start }, reader, writer)
 }
 
 #[test]
@@ -28,7 +29,7 @@ fn byte_by_byte(rt: HostRuntime) -> Result<(), Fail> {
     let trace = trace_of(rt.alloc(), LISTING)?;
     let mut reader = OneByteReader::new(trace.as_slice());
     let mut writer = OneByteWriter::new(rt.alloc());
-    let answer = observe(&mut reader, &mut writer, true);
+    let answer = observe(&mut reader, &mut writer, TraceStart::Made);
     expect_eq_at(&rt, &"answer", &answer, &Ok(()));
     expect_eq_at(&rt, &"told", &writer.taken.as_slice(), &TOLD);
     Ok(())
@@ -41,7 +42,7 @@ fn a_read_that_fails(rt: HostRuntime) -> Result<(), Fail> {
     for place in 0..trace.len() {
         let mut reader = FailingReader::new(trace.as_slice(), place);
         let mut lines = Vec::new(rt.alloc());
-        let answer = observe(&mut reader, &mut lines, true);
+        let answer = observe(&mut reader, &mut lines, TraceStart::Made);
         expect_eq_at(&rt, &place, &answer, &Err(DecodeFault::Read));
         expect_eq_at(&rt, &place, &TOLD.starts_with(lines.as_slice()), &true);
     }
@@ -55,7 +56,7 @@ fn a_write_that_fails(rt: HostRuntime) -> Result<(), Fail> {
         for fails in [false, true] {
             let mut reader = trace.as_slice();
             let mut writer = ShortWriter::new(rt.alloc(), room, fails);
-            let answer = observe(&mut reader, &mut writer, true);
+            let answer = observe(&mut reader, &mut writer, TraceStart::Made);
             let written = room as u64;
             expect_eq_at(&rt, &room, &answer, &Err(DecodeFault::Write { written }));
             expect_eq_at(&rt, &room, &TOLD.starts_with(writer.taken()), &true);
@@ -78,7 +79,7 @@ fn a_bad_character(rt: HostRuntime) -> Result<(), Fail> {
     let (trace, place) = told_before(rt.alloc(), LISTING)?;
     let mut reader = trace.as_slice();
     let mut lines = Vec::new(rt.alloc());
-    let answer = observe(&mut reader, &mut lines, true);
+    let answer = observe(&mut reader, &mut lines, TraceStart::Made);
     let fault = DecodeFault::Text(TextFault::BadChar { place });
     expect_eq_at(&rt, &"answer", &answer, &Err(fault));
     expect_eq_at(&rt, &"told", &lines.as_slice(), &TOLD);

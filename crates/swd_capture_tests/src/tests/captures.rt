@@ -6,6 +6,7 @@ use std::test::Fail;
 use swd_capture::Printed;
 use swd_capture_text::{Reading, print_capture};
 use swd_fakes::{FailingReader, OneByteReader, ShortWriter};
+use swd_observer::TraceStart;
 use swd_text::{DecodeFault, TextFault};
 
 // A listing's bits, or bits as they are.
@@ -23,9 +24,13 @@ struct Row {
     text: &'static [u8],
 }
 
-const ACCESSES: Printed = Printed::Accesses { made: false };
+const ACCESSES: Printed = Printed::Accesses {
+    start: TraceStart::Any,
+};
 
-const MADE: Printed = Printed::Accesses { made: true };
+const MADE: Printed = Printed::Accesses {
+    start: TraceStart::Made,
+};
 
 // The last bits of a transaction, a stretch, and what is cut off.
 const CUT_START: &[Piece] = &[

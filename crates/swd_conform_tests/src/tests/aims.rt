@@ -101,7 +101,7 @@ fn check(alloc: Global, base: u32) -> Result<Check<Global>, Fail> {
 // one without memory, if there was one.
 #[derive(Drop)]
 struct Ran {
-    conformed: Conformed,
+    conformed: Conformed<'static>,
     astray: Option<u32>,
 }
 

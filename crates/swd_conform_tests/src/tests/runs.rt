@@ -31,7 +31,7 @@ fn check(alloc: Global) -> Result<Check<Global>, Fail> {
 }
 
 // A plan for this memory.
-fn plan() -> Result<Plan, Fail> {
+fn plan() -> Result<Plan<'static>, Fail> {
     Ok(Plan::new(BASE, WORDS, Some(0x3000_0000)).ok_or("no plan")?)
 }
 

@@ -1,4 +1,5 @@
 -- Laws of every call, in any state and under any mark: what is due after it, and the counts of requests.
+use Rattle.std.specs.Prelude.{true}
 use Rattle.std.specs.Prelude.{ℕ, ◌≡◌, ◌≢◌, ◌<◌, ◌≤◌, ◌+◌, ◌↔◌, Bool, false}
 use Rattle.swd_bits.specs.declared.request.Request.{Request}
 use Rattle.swd_bits.specs.declared.ack.Ack.{Ack}
@@ -25,15 +26,16 @@ abbrev pub PortNoAckSeen : Type 0
 PortNoAckSeen = (seen : ℕ) (read : Bool) → seen < 8 → ((a : Ack) → bits_of_ack a ≢ low_bits 3 seen) →
     IsPortNoAck seen × (port_due_after read seen ≡ Lost)
 
--- a request adds one to the count of requests, and at most one to those of disturbed and of lost ones; what only hosts
--- write is unchanged
+-- A request adds one to the count of requests, at most one to that of lost ones, and at most two to that of
+-- disturbances: one by its mark, one by a write that is given up before it. What only hosts write is unchanged, and
+-- WDATAERR stays set.
 pub record PortAsked (s t : Port) : Type 0 where
   pub asked : t.tally.asked ≡ s.tally.asked + 1
   pub disturbed_least : s.tally.disturbed ≤ t.tally.disturbed
-  pub disturbed_most : t.tally.disturbed ≤ s.tally.disturbed + 1
+  pub disturbed_most : t.tally.disturbed ≤ s.tally.disturbed + 2
   pub lost_least : s.tally.lost ≤ t.tally.lost
   pub lost_most : t.tally.lost ≤ s.tally.lost + 1
-  pub write_error : t.target.write_error ≡ s.target.write_error
+  pub write_error : s.target.write_error ≡ true → t.target.write_error ≡ true
   pub debug_power : t.target.debug_power ≡ s.target.debug_power
   pub system_power : t.target.system_power ≡ s.target.system_power
   pub debug_seen : s.target.debug_up ≡ Seen → t.target.debug_up ≡ Seen

@@ -8,6 +8,7 @@ use Rattle.swd_port.specs.Port.{port_register}
 use Rattle.swd_port.specs.Answers.{is_exempt_register}
 use Rattle.swd_port.specs.Completion.{PortCompletes}
 use Rattle.swd_port.specs.Asking.{PortAsks, port_has_power}
+use Rattle.swd_port.specs.GivingUp.{PortAsksKept}
 use Rattle.swd_port.specs.Moves.{PortAround}
 use Rattle.swd_port.specs.Outcomes.{PortSteady, PortUnmoved, PortIgnores, PortRefuses, PortAccepts, PortOkaySeen}
 use Rattle.swd_port.specs.Outcomes.{PortWaitSeen, PortFaultSeen, PortNoneSeen}
@@ -22,10 +23,10 @@ PortIsFlagged x = (x.sticky_error ≡ true) ⊎ (x.write_error ≡ true)
 abbrev pub PortIsPowered : Bool → Target → Type 0
 PortIsPowered ap x = ap ≡ true → port_has_power x ≡ true
 
--- a live target answers an exempt request OK, unless it is lost
+-- a live target answers an exempt request OK, unless it is lost, where no write is given up before it
 abbrev pub PortExemptRequest : Type 0
 PortExemptRequest = (r : Register) (q : Request) (seen : ℕ) (s t : Port) → port_register s.target.select q ≡ r →
-    is_exempt_register r ≡ true → s.target.reset ≡ Live → PortAsks s q seen t
+    is_exempt_register r ≡ true → s.target.reset ≡ Live → PortAsksKept s q seen t
     → PortAround (PortOkayOrLost r q.read seen) s t
 
 -- the same without a pending transfer: exactly that
@@ -37,7 +38,7 @@ PortExemptAtRest = (r : Register) (q : Request) (seen : ℕ) (s t : Port) → po
 -- a target that had a line reset answers a DPIDR read OK and is live after it, unless the request is lost
 abbrev pub PortIdentificationRead : Type 0
 PortIdentificationRead = (q : Request) (seen : ℕ) (s t : Port) → port_register s.target.select q ≡ DpidrRead →
-    s.target.reset ≢ Unreset → PortAsks s q seen t → PortAround (PortOkayOrLost DpidrRead q.read seen) s t
+    s.target.reset ≢ Unreset → PortAsksKept s q seen t → PortAround (PortOkayOrLost DpidrRead q.read seen) s t
 
 abbrev pub PortIdentificationAtRest : Type 0
 PortIdentificationAtRest = (q : Request) (seen : ℕ) (s t : Port) → port_register s.target.select q ≡ DpidrRead →

@@ -11,6 +11,7 @@ ghost use Rattle.swd_port.specs.Laws.Requests.{PortUnmovedByExempt, PortUnmovedB
 ghost use Rattle.swd_port.specs.Laws.DataPhases.{PortDataTaken, PortTakeKeeps, PortTakeKeepsAtRest, PortDataGiven};
 ghost use Rattle.swd_port.specs.Laws.DataPhases.{PortDataGivenAtRest, PortDataGivenExact, PortTurnaroundPassed};
 ghost use Rattle.swd_port.specs.Laws.DataPhases.{PortTurnaroundAtRest};
+ghost use Rattle.swd_port.specs.GivingUp.{PortAsksSplit};
 ghost use Rattle.swd_port.specs.Laws.LineResets.{PortLineReset, PortIdleCycles, PortIdleCyclesAtRest};
 ghost use Rattle.swd_port.specs.Laws.LineResets.{PortFirstLineReset};
 
@@ -39,8 +40,9 @@ pub fn calls()
 {}
 
 /// States the result of a request, by its kind and the flags: an exempt one, one refused for a flag, one that is free
-/// of flags, and one that confirms a transfer.
+/// of flags, and one that confirms a transfer. Before an exempt one a pending write may be given up.
 pub fn requests()
+    ensures split { PortAsksSplit }
     ensures exempt { PortExemptRequest }
     ensures exempt_at_rest { PortExemptAtRest }
     ensures identification { PortIdentificationRead }

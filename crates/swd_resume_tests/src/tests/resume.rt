@@ -16,7 +16,7 @@ use swd_simulated::{
     QUIRKS, READ, READ_WORD, READ_ZERO, RUN, Run, Simulated, WHOLE, WORD, WRITE, WRITTEN, Wanted,
     run_of, target_of,
 };
-use swd_target::{Bench, Mark, Memory, Quirks};
+use swd_target::{Bench, BufferedBench, Mark, Memory, Quirks};
 
 // A target, and the last report of what was done over it.
 #[derive(Drop)]
@@ -125,6 +125,64 @@ fn a_run_goes_on_after_each_lost_acknowledgement(rt: HostRuntime) -> Result<(), 
         each_is_gone_on_with::<Bench<Memory>, HostRuntime>(&rt, rt.alloc(), late)?;
         each_is_gone_on_with::<ClockedBench<Memory>, HostRuntime>(&rt, rt.alloc(), late)?;
     }
+    Ok(())
+}
+
+#[test]
+fn a_run_goes_on_where_the_port_gave_the_write_up(rt: HostRuntime) -> Result<(), Fail> {
+    each_is_gone_on_with::<BufferedBench<Memory>, HostRuntime>(&rt, rt.alloc(), true)?;
+    for place in 1..=15_usize {
+        four_are_written(&rt, rt.alloc(), place)?;
+    }
+    Ok(())
+}
+
+const FOUR: &[Access] = &[
+    Access::Write(0x2000_0000, 1),
+    Access::Write(0x2000_0004, 2),
+    Access::Write(0x2000_0008, 3),
+    Access::Write(0x2000_000c, 4),
+];
+
+const FOUR_LOGGED: &[Transfer] = &[
+    Transfer {
+        read: false,
+        addr: 0x2000_0000,
+        word: 1,
+    },
+    Transfer {
+        read: false,
+        addr: 0x2000_0004,
+        word: 2,
+    },
+    Transfer {
+        read: false,
+        addr: 0x2000_0008,
+        word: 3,
+    },
+    Transfer {
+        read: false,
+        addr: 0x2000_000c,
+        word: 4,
+    },
+];
+
+// Four writes in a row, of which a request isn't seen. The write before it is still pending, so the port gives it up
+// at the DPIDR read that follows, and each takes effect once, when the run is resumed or before.
+fn four_are_written<R: Abort>(rt: &R, alloc: Global, place: usize) -> Result<(), Fail> {
+    let marks = [(place, Mark::Deaf)];
+    let run = run_of(&marks, FOUR);
+    let stage = begun::<BufferedBench<Memory>>(alloc, &run, true)?;
+    expect_eq_at(rt, &place, &stage.report.ended, &End::Lost);
+    let stage = gone_on(alloc, run.accesses, stage, 8)?;
+    expect_eq_at(rt, &place, &stage.report.ended, &End::All);
+    expect_eq_at(
+        rt,
+        &place,
+        &stage.report.answers.as_slice(),
+        &[Answer::Written; 4].as_slice(),
+    );
+    leaves(rt, &place, stage.target, FOUR_LOGGED);
     Ok(())
 }
 

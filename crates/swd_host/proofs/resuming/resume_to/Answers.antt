@@ -12,7 +12,8 @@ use Rattle.swd_host.specs.Sent.{HostCalls}
 use Rattle.swd_host.specs.Stages.{EngineListCalls}
 use Rattle.swd_host.proofs.Making.{host_calls_weaken, host_calls_append}
 use Rattle.swd_host.proofs.SendingTurns.{opening_counts, opening_stop_sent}
-use Rattle.swd_host.proofs.SendingRuns.{resumed_requests_small, resumed_report_sent}
+use Rattle.swd_host.proofs.SendingRuns.{resumed_requests_small, resumed_report_sent, list_confirms}
+use Rattle.swd_host.specs.Confirming.{HostConfirms}
 use Rattle.swd_host.proofs.resuming.resume_to.Goals as goal
 
 pub returns-in-Err-clause-continues : goal.returns-in-Err-clause-continues
@@ -132,4 +133,37 @@ returns-clause-told g c =
     (returns-clause-continues g c))
     (tells.ends early (opening_counts rest (resumed_bursts c.args.bursts) true c.args.tries c.resuming-engine.result
     c.open.new.engine early c.resuming-engine.ensures.again turns c.in_default.ensures.finished)))
+    c.open.ensures.made tells
+
+pub returns-in-Err-clause-confirms : goal.returns-in-Err-clause-confirms
+returns-in-Err-clause-confirms g c =
+    let rest = drop (length (g.K.AnswerSink.taken c.args.sink.now)) c.args.accesses.now in
+    host_calls_weaken g.W.Wire.notes _ _ _ _
+    (λ calls turns. subst (λ b. HostConfirms b calls)
+    (c.open.ensures.works.bursts ∙ c.resuming-engine.ensures.again.bursts)
+    (opening_stop_sent rest (resumed_bursts c.args.bursts) true c.args.tries
+    c.resuming-engine.result c.open.new.engine c.in-Err.end calls c.resuming-engine.ensures.again turns
+    c.in-Err.ensures.finished).confirms)
+    c.open.ensures.made
+
+pub returns-clause-confirms : goal.returns-clause-confirms
+returns-clause-confirms g c =
+    let before = g.K.AnswerSink.taken c.args.sink.now in
+    let after = g.K.AnswerSink.taken c.perform-ended.new.sink in
+    let rest = drop (length before) c.args.accesses.now in
+    let tells : HostCalls g.W.Wire.notes (EngineListCalls rest c.open.new.engine c.perform-ended.new.engine before after
+    c.perform-ended.result) c.open.new.wire c.perform-ended.new.wire =
+    subst (λ rest. HostCalls g.W.Wire.notes
+    (EngineListCalls rest c.open.new.engine c.perform-ended.new.engine before after
+    c.perform-ended.result) c.open.new.wire c.perform-ended.new.wire)
+    (resumed_rest_slice c.count-answered.result (length before) c.args.accesses.now c.count-answered.ensures
+    c.requires.reported)
+    c.perform-ended.ensures.told in
+    host_calls_append g.W.Wire.notes (λ calls. EngineTurns c.resuming-engine.result calls c.open.new.engine)
+    (EngineListCalls rest c.open.new.engine c.perform-ended.new.engine before after c.perform-ended.result) _ _ _ _
+    (λ early late turns tells. list_confirms rest (resumed_bursts c.args.bursts) c.open.new.engine
+    c.perform-ended.new.engine _ _ c.perform-ended.result early late
+    (c.open.ensures.works.bursts ∙ c.resuming-engine.ensures.again.bursts)
+    (opening_counts rest (resumed_bursts c.args.bursts) true c.args.tries c.resuming-engine.result
+    c.open.new.engine early c.resuming-engine.ensures.again turns c.in_default.ensures.finished) tells)
     c.open.ensures.made tells

@@ -1,4 +1,4 @@
-use Rattle.swd_host.proofs.Words.{ap, arith, [], false, ◌∙◌, ◌++◌, engine_report}
+use Rattle.swd_host.proofs.Words.{ap, arith, [], false, subst, ◌∙◌, ◌++◌, engine_report}
 use Rattle.std.proofs.Common.{rules}
 use Rattle.swd_host.proofs.Alone.{opening_closes, list_closes, engine_closes_equal}
 use Rattle.swd_host.proofs.Runs.{opening_stops, list_fits, host_run_equal_report}
@@ -6,7 +6,8 @@ use Rattle.swd_host.specs.Calls.{EngineTurns}
 use Rattle.swd_host.specs.Stages.{EngineListCalls}
 use Rattle.swd_host.proofs.Making.{host_calls_weaken, host_calls_append}
 use Rattle.swd_host.proofs.SendingTurns.{opening_counts, opening_stop_sent}
-use Rattle.swd_host.proofs.SendingRuns.{engine_requests_small, engine_report_matches}
+use Rattle.swd_host.proofs.SendingRuns.{engine_requests_small, engine_report_matches, list_confirms}
+use Rattle.swd_host.specs.Confirming.{HostConfirms}
 use Rattle.swd_host.proofs.running.conduct_to.Goals as goal
 
 pub returns-in-Err-clause-fits : goal.returns-in-Err-clause-fits
@@ -74,4 +75,21 @@ returns-clause-told g c = host_calls_append g.W.Wire.notes (λ calls. EngineTurn
     (search rules) (returns-clause-closes g c))
     (tells.ends early (opening_counts c.args.accesses.now c.args.engine.bursts false c.args.engine.tries c.args.engine
     c.open.new.engine early c.requires.new turns c.in_default.ensures.finished)))
+    c.open.ensures.made c.perform-ended.ensures.told
+
+pub returns-in-Err-clause-confirms : goal.returns-in-Err-clause-confirms
+returns-in-Err-clause-confirms g c = host_calls_weaken g.W.Wire.notes _ _ _ _
+    (λ calls turns. subst (λ b. HostConfirms b calls) c.open.ensures.works.bursts
+    (opening_stop_sent c.args.accesses.now c.args.engine.bursts false c.args.engine.tries c.args.engine
+    c.open.new.engine c.in-Err.end calls c.requires.new turns c.in-Err.ensures.finished).confirms) c.open.ensures.made
+
+pub returns-clause-confirms : goal.returns-clause-confirms
+returns-clause-confirms g c =
+    host_calls_append g.W.Wire.notes (λ calls. EngineTurns c.args.engine calls c.open.new.engine)
+    (EngineListCalls c.args.accesses.now c.open.new.engine c.perform-ended.new.engine
+    (g.K.AnswerSink.taken c.args.sink.now) (g.K.AnswerSink.taken c.perform-ended.new.sink) c.perform-ended.result) _ _ _
+    _ (λ early late turns tells. list_confirms c.args.accesses.now c.args.engine.bursts c.open.new.engine
+    c.perform-ended.new.engine _ _ c.perform-ended.result early late c.open.ensures.works.bursts
+    (opening_counts c.args.accesses.now c.args.engine.bursts false c.args.engine.tries c.args.engine
+    c.open.new.engine early c.requires.new turns c.in_default.ensures.finished) tells)
     c.open.ensures.made c.perform-ended.ensures.told

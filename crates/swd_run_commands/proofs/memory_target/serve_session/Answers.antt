@@ -1,9 +1,10 @@
-use Rattle.std.proofs.Common.{◌≡◌, ◌∙◌, ℕ, Result, ap, false, refl, subst, sym}
+use Rattle.std.proofs.Common.{◌∙◌, ℕ, Result, ap, refl, subst, sym}
 use Rattle.swd_port.specs.PlainMemory.{PlainMemory}
 use Rattle.swd_port.specs.PlainBus.{bus_of, plain_of}
 use Rattle.swd_clocked.specs.Marked.{marked_clocked_state}
 use Rattle.swd_bitbang.specs.Traces.{is_pins_trace_cut_off}
 use Rattle.swd_run_commands.specs.MemoryTargets.{IsTargetCommandStatus}
+use Rattle.swd_run_commands.specs.Targets.{IsSessionWhole}
 use Rattle.swd_console.specs.MemoryFiles.{CommandWritesBack}
 use Rattle.swd_run_commands.proofs.ServedLemmas.{target_command_status_map}
 use Rattle.swd_run_commands.proofs.memory_target.serve_session.Goals as goal
@@ -15,8 +16,9 @@ returns-in-Ok g c =
     let back = c.args.session.back in (
       g.F.Made.Write.contents c.write_back.new.to.file,
       record {
-        served = served.result.0;
-        after = served.result.1;
+        served = served.result.served;
+        cut = served.result.is_cut_off;
+        after = served.result.pins;
         session = served.ensures;
         wrote = wrote;
         written = subst (λ (m : PlainMemory). CommandWritesBack m back.memory.now.base back.count wrote
@@ -24,10 +26,11 @@ returns-in-Ok g c =
             (sym (ap plain_of c.memory-after.ensures) ∙ ap (λ t. plain_of (marked_clocked_state bus_of t).memory)
             c.target-2.ensures)
             c.write_back.ensures;
-        is = subst (λ (w : Result (Unit {0}) ℕ). IsTargetCommandStatus served.result.0
-            (is_pins_trace_cut_off served.result.1.trace ≡ false) w c.served_status.result)
-            (sym c.in-Ok.is) (target_command_status_map served.result.0 _ _ _
-            (λ done. ap is_pins_trace_cut_off (sym c.trace.ensures) ∙ c.are_complete-done.ensures done)
+        is = subst (λ (w : Result (Unit {0}) ℕ). IsTargetCommandStatus served.result.served
+            (IsSessionWhole served.result.is_cut_off served.result.pins) w c.served_status.result)
+            (sym c.in-Ok.is) (target_command_status_map served.result.served _ _ _
+            (λ none. let whole = c.missing_of-missing.ensures none in
+            (ap is_pins_trace_cut_off (sym c.trace.ensures) ∙ whole.0, whole.1))
             c.served_status.ensures);
       },
     )
@@ -39,8 +42,9 @@ returns g c =
     let back = c.args.session.back in (
       g.F.Made.Write.contents c.write_back.new.to.file,
       record {
-        served = served.result.0;
-        after = served.result.1;
+        served = served.result.served;
+        cut = served.result.is_cut_off;
+        after = served.result.pins;
         session = served.ensures;
         wrote = wrote;
         written = subst (λ (m : PlainMemory). CommandWritesBack m back.memory.now.base back.count wrote
@@ -48,8 +52,8 @@ returns g c =
             (sym (ap plain_of c.memory-after.ensures) ∙ ap (λ t. plain_of (marked_clocked_state bus_of t).memory)
             c.target-2.ensures)
             c.write_back.ensures;
-        is = subst (λ (w : Result (Unit {0}) ℕ). IsTargetCommandStatus served.result.0
-            (is_pins_trace_cut_off served.result.1.trace ≡ false) w c.in-Err.status) (sym c.in-Err.is)
+        is = subst (λ (w : Result (Unit {0}) ℕ). IsTargetCommandStatus served.result.served
+            (IsSessionWhole served.result.is_cut_off served.result.pins) w c.in-Err.status) (sym c.in-Err.is)
             refl;
       },
     )

@@ -17,5 +17,6 @@ returns c = record {
   hole = subst (λ (word : Option Text). IsIdrArgument c.in-Some-idr_in.hole word)
       (c.get_str-given.ensures ∙ first_value-rows (found_of c.args.matches.now) (codes "hole"))
       c.in-Some-idr_in.ensures;
+  steps = c.in_ok-steps.ensures;
   clean = c.is_set-clean.ensures;
 }

@@ -13,7 +13,7 @@ returns c = record {
     idr = c.in_ok-target.ensures.arguments.idr;
   };
   size = c.in-Some.size;
-  packets = refl;
+  packet_size = refl;
   sized = subst (λ (word : Option Text). IsSizeArgument c.in-Some.size word)
       (c.get_str-given.ensures ∙ first_value-rows (found_of c.args.matches.now) (codes "size")) c.in-Some.ensures;
 }

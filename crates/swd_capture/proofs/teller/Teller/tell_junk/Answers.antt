@@ -4,13 +4,13 @@ use Rattle.std.proofs.lemmas.List.{append-nil}
 use Rattle.swd_bits.specs.BitLists.{tx_bits_of}
 use Rattle.swd_bits.proofs.BitsLemmas.{length-low_bits}
 use Rattle.swd_trace.specs.declared.item.Item.TheVariants.{Junk}
-use Rattle.swd_observer.specs.Traces.{trace_observer_after}
+use Rattle.swd_observer.specs.Traces.{trace_observer_after, trace_observer_from}
 use Rattle.swd_capture.specs.Accesses.{observer_text_of_items}
 use Rattle.swd_capture.specs.declared.printed.Printed.TheVariants.{Lines}
 use Rattle.swd_capture.specs.declared.teller.Telling.TheVariants.{Accesses as ToldAccesses}
-use Rattle.swd_capture.specs.Printing.{capture_junk_parts, capture_observer_of, capture_printed_parts}
+use Rattle.swd_capture.specs.Printing.{capture_junk_parts, capture_printed_parts}
 use Rattle.swd_trace.proofs.NumberLemmas.{decoder_bits_none}
-use Rattle.swd_capture.specs.Gaps.{capture_run_items, capture_waiting, capture_due_items}
+use Rattle.swd_capture.specs.Gaps.{IsHeldBack, capture_run_items, capture_run_none, capture_waiting, capture_due_items}
 use Rattle.swd_capture.specs.Tellers.{CaptureTellingAfter, IsCaptureTellerAfter, IsCaptureWatching}
 use Rattle.swd_capture.proofs.TellerLemmas.{capture_accesses_at_junk, capture_observer_at_junk}
 use Rattle.swd_capture.proofs.TellerLemmas.{capture_waiting_at_junk}
@@ -51,10 +51,7 @@ returns-then-junk-gt0-clause-after g c = λ printed parts h.
             (flushed.observer ∙ ap (trace_observer_after (capture_run_items (capture_waiting parts))) keeps.2)
             ∙ sym (capture_observer_at_junk keeps.0 parts bits c.from.result len some),
         subst (λ r. IsCaptureWatching r c.lose.new.self) (sym (capture_waiting_at_junk parts bits (omega arith)))
-            (record {
-              held = c.lose.ensures.held ∙ flushed.keeps.held;
-              idle = c.lose.ensures.idle ∙ flushed.keeps.idle;
-            }),
+            (subst (IsHeldBack capture_run_none) (sym c.lose.ensures.held) flushed.keeps),
       );
     }
 
@@ -66,7 +63,7 @@ returns-then-junk-gt0-clause-bytes g c = λ printed parts h.
     let len : length bits ≡ c.from.result = length-low_bits c.args.junk.len c.args.junk.bits ∙ sym c.from.ensures in
     let some : 0 < c.from.result = omega (arith, c.if-junk-gt0.true, c.from.ensures) in
     let waits = capture_run_items (capture_waiting parts) in
-    let before = trace_observer_after (capture_due_items parts) (capture_observer_of keeps.0) in
+    let before = trace_observer_after (capture_due_items parts) (trace_observer_from keeps.0) in
     let first = observer_text_of_items waits before in
     let second = observer_text_of_items (replicate c.from.result (Junk false)) (trace_observer_after waits before) in (
       first ++ second,

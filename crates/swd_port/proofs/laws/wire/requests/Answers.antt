@@ -3,7 +3,11 @@ use Rattle.swd_port.proofs.RequestLaws.{port_identification_at_rest, port_flagge
 use Rattle.swd_port.proofs.RequestLaws.{port_unpowered_at_rest, port_free_request, port_free_at_rest, port_free_exact}
 use Rattle.swd_port.proofs.RequestLaws.{port_lost_request, port_refused_with_power, port_unmoved_by_exempt}
 use Rattle.swd_port.proofs.RequestLaws.{port_unmoved_by_free, port_unmoved_by_refused, port_confirming_request}
+use Rattle.swd_port.proofs.GivingUpLaws.{port_asks_split}
 use Rattle.swd_port.proofs.laws.wire.requests.Goals as goal
+
+pub returns-clause-split : goal.returns-clause-split
+returns-clause-split c = port_asks_split
 
 pub returns-clause-exempt : goal.returns-clause-exempt
 returns-clause-exempt c = port_exempt_request
