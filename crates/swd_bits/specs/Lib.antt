@@ -1,3 +1,4 @@
+pub mod AckNumbers
 pub mod Acks
 pub mod BitLists
 pub mod Bits

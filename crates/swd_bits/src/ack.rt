@@ -1,7 +1,8 @@
 //! Acknowledgements: the three bits with which a target answers a request.
 ghost use Rattle.std.specs.Prelude.{◌≡◌, ◌≢◌, ◌<◌, IfSome, IfNone};
 ghost use Rattle.swd_bits.specs.Bits.{low_bits};
-ghost use Rattle.swd_bits.specs.Acks.{bits_of_ack, ack_number};
+ghost use Rattle.swd_bits.specs.Acks.{bits_of_ack};
+ghost use Rattle.swd_bits.specs.AckNumbers.{ack_number};
 ghost use Rattle.swd_bits.specs.declared.ack.Ack.{Ack};
 
 use std::fmt;

@@ -1,6 +1,6 @@
 //! A check of the items of a wire's calls.
 ghost use Rattle.std.specs.Prelude.{◌≡◌, ◌∷◌, [], List};
-ghost use Rattle.swd_port.specs.Stories.{IsPortSeen};
+ghost use Rattle.swd_port.specs.Steps.{IsPortSeen};
 ghost use Rattle.swd_trace.specs.declared.item.Item.{Item};
 ghost use Rattle.swd_recorder.specs.Calls.{IsRecordedCue, recorded_call_items};
 ghost use Rattle.swd_check.specs.Watched.{CheckHolds, CheckIndex, CheckSays, CheckTakes};

@@ -7,7 +7,7 @@ ghost use Rattle.swd_port.specs.Made.{port_made};
 ghost use Rattle.swd_port.specs.Completion.{port_completed};
 ghost use Rattle.swd_port.specs.Asking.{PortAsks, port_tally_after};
 ghost use Rattle.swd_port.specs.Leading.{PortMayLead, MayRelease, PortLeadsNow};
-ghost use Rattle.swd_port.specs.Stories.{PortMayStep, IsPortSeen, IsPortStep};
+ghost use Rattle.swd_port.specs.Steps.{PortMayStep, IsPortSeen, IsPortStep};
 ghost use Rattle.swd_port.specs.declared.cue.Cue.TheVariants.{Ask};
 ghost use Rattle.swd_port.specs.Moving.{PortTakesNow, PortGives, PortPassesNow};
 ghost use Rattle.swd_target.specs.Marks.{IsLegalPlan};

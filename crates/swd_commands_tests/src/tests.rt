@@ -1,5 +1,5 @@
 //! What text can't say of the program (transcripts/): reads, writes and allocations that fail, clocks, unknown streams.
-use expect::{expect_eq, expect_eq_at};
+use expect::{expect_at, expect_eq, expect_eq_at};
 use std::alloc::Global;
 use std::cell::Cell;
 use std::fmt::Display;
@@ -316,34 +316,51 @@ where
     }
 }
 
-// The arguments, and whether they are refused.
-const SHOWN: &[(&[&str], bool)] = &[
+const AT_A_TERMINAL: &[u8] = b"swd: --remote: standard output is a terminal, ";
+
+const AT_STANDARD_INPUT: &[u8] = b"swd: with --remote or --probe ";
+
+// The arguments, and how the line begins that refuses them, or nothing.
+const SHOWN: &[(&[&str], &[u8])] = &[
     (
         &["swd", "run", "script", "--remote", "--report", "traced"],
-        true,
+        AT_A_TERMINAL,
     ),
-    (&["swd", "run", "-", "--remote", "--report", "traced"], true),
-    (&["swd", "load", "20000000", "hex", "--remote"], true),
-    (&["swd", "verify", "20000000", "hex", "--remote"], true),
+    (
+        &["swd", "run", "-", "--remote", "--report", "traced"],
+        AT_STANDARD_INPUT,
+    ),
+    (
+        &["swd", "load", "20000000", "hex", "--remote"],
+        AT_A_TERMINAL,
+    ),
+    (
+        &["swd", "verify", "20000000", "hex", "--remote"],
+        AT_A_TERMINAL,
+    ),
     (
         &["swd", "dump", "20000000", "4", "traced", "--remote"],
-        true,
+        AT_A_TERMINAL,
     ),
-    (&["swd", "dump", "20000000", "4", "-", "--remote"], true),
-    (&["swd", "run", "script"], false),
+    (
+        &["swd", "dump", "20000000", "4", "-", "--remote"],
+        AT_STANDARD_INPUT,
+    ),
+    (&["swd", "run", "script"], b""),
 ];
 
 // In a terminal no command speaks to a target, whatever it is given. Nothing is sent, no file is opened, and each other
 // command is as ever.
 #[test]
 fn a_terminal_is_no_target(rt: HostRuntime) {
-    for (words, refused) in SHOWN {
+    for (words, line) in SHOWN {
+        let refused = !line.is_empty();
         let ran = run_in(rt.alloc(), words, b"".as_slice(), &Still, true);
-        expect_eq_at(&rt, words, &ran.status, &if *refused { 2 } else { 0 });
-        expect_eq_at(&rt, words, &ran.output.is_empty(), refused);
+        expect_eq_at(&rt, words, &ran.status, &if refused { 2 } else { 0 });
+        expect_eq_at(&rt, words, &ran.output.is_empty(), &refused);
         expect_eq_at(&rt, words, &ran.cuts, &0);
-        let line = b"swd: --remote: standard output is a terminal, ";
-        expect_eq_at(&rt, words, &ran.errors.starts_with(line), refused);
+        expect_eq_at(&rt, words, &ran.errors.is_empty(), &!refused);
+        expect_at(&rt, words, ran.errors.starts_with(line));
     }
 }
 

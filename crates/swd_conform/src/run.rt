@@ -1,6 +1,6 @@
 //! A conformance run: the calls of a wire, whose items a check takes.
 ghost use Rattle.std.specs.Prelude.{◌≡◌, ◌+◌, ◌*◌, ◌≤◌, ◌<◌, ◌^◌, ◌∷◌, true};
-ghost use Rattle.swd_port.specs.Stories.{PortMayStep, IsPortSeen, port_due_once};
+ghost use Rattle.swd_port.specs.Steps.{PortMayStep, IsPortSeen, port_due_once};
 ghost use Rattle.swd_port.specs.declared.wire.Due.TheVariants.{Nothing, Take, Give, Pass};
 ghost use Rattle.swd_recorder.specs.Calls.{IsRecordedCue, recorded_call_items};
 ghost use Rattle.swd_check.specs.Watched.{CheckTakes};

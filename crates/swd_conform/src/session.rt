@@ -1,7 +1,7 @@
 //! The check of a session over a line, call by call.
 ghost use Rattle.std.specs.Prelude.{◌≡◌, true, [], Some, IfSome, List};
 ghost use Rattle.swd_port.specs.declared.call.Call.{Call};
-ghost use Rattle.swd_port.specs.Stories.{IsPortSeen};
+ghost use Rattle.swd_port.specs.Steps.{IsPortSeen};
 ghost use Rattle.swd_port.specs.Transports.{PortAttempt};
 ghost use Rattle.swd_recorder.specs.Calls.{IsRecordedCue};
 ghost use Rattle.swd_check.specs.Watched.{CheckTakes};

@@ -12,7 +12,7 @@ use Rattle.std.proofs.Math.Bool.{and-false}
 use Rattle.swd_port.specs.declared.access.Access.TheVariants.{Read, Write}
 use Rattle.swd_port.specs.declared.access.Answer.TheVariants.{Written, Value, BusFault}
 use Rattle.swd_port.specs.declared.call.Call.{Call}
-use Rattle.swd_port.specs.Stories.{is_port_ask}
+use Rattle.swd_port.specs.Steps.{is_port_ask}
 use Rattle.swd_port.specs.declared.cue.Cue.TheVariants.{Ask as CueAsk, Take, Give, Pass}
 use Rattle.swd_port.specs.declared.register.Register.{Register}
 use Rattle.swd_port.specs.declared.register.Register.TheVariants.{CtrlStatRead, DrwRead, DrwWrite, RdbuffRead}

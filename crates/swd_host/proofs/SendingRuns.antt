@@ -17,7 +17,7 @@ use Rattle.std.specs.Prelude.{count_by, max, min, drop, ◌-◌}
 use Rattle.swd_port.specs.declared.access.Access.TheVariants.{Read, Write}
 use Rattle.swd_port.specs.declared.call.Call.{Call}
 use Rattle.swd_port.specs.declared.wire.Due.{Due}
-use Rattle.swd_port.specs.Stories.{is_port_ask}
+use Rattle.swd_port.specs.Steps.{is_port_ask}
 use Rattle.swd_host.specs.Calls.{EngineTurns, EngineTurnsFrom, host_idle_call}
 use Rattle.swd_host.specs.Again.{ResumeCloses, resume_own_report}
 use Rattle.swd_host.specs.Resuming.{host_end_is_all, resume_report}

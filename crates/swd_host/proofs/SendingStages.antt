@@ -4,7 +4,7 @@ use Rattle.swd_host.proofs.Words.{Stopped, Task, Job, State, Resting, At, Check,
 use Rattle.swd_host.proofs.Words.{Behind, Confirm, task_is_block, access_of_task, Access, Answer, ◌&&◌}
 use Rattle.swd_port.specs.declared.access.Access.TheVariants.{Read}
 use Rattle.swd_port.specs.declared.cue.Cue.{Cue}
-use Rattle.swd_port.specs.Stories.{is_port_ask}
+use Rattle.swd_port.specs.Steps.{is_port_ask}
 use Rattle.swd_port.specs.declared.cue.Cue.TheVariants.{Lead, Ask as CueAsk, Take, Give, Pass}
 use Rattle.swd_host.specs.Sent.{HostSince, HostListHasAccess, HostAwaitsNone, host_asks_result, host_since_refused}
 use Rattle.swd_host.specs.Sent.{Quiet, Refused, Failed as Fails}

@@ -14,7 +14,7 @@ use Rattle.swd_port.specs.declared.call.Call.{Call}
 use Rattle.swd_port.specs.declared.cue.Cue.{Cue}
 use Rattle.swd_port.specs.declared.cue.Cue.TheVariants.{Lead, Ask as CueAsk, Take, Give, Pass}
 use Rattle.swd_port.specs.declared.register.Register.TheVariants.{DrwWrite}
-use Rattle.swd_port.specs.Stories.{is_port_ask}
+use Rattle.swd_port.specs.Steps.{is_port_ask}
 use Rattle.swd_host.specs.declared.engine.Phase.TheVariants.{Faulted}
 use Rattle.swd_host.specs.declared.task.Task.TheVariants.{BurstWrite}
 use Rattle.swd_host.specs.declared.engine.Phase.{Phase}

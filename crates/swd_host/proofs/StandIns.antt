@@ -12,7 +12,7 @@ use Rattle.swd_port.specs.declared.cue.Cue.{Cue}
 use Rattle.swd_port.specs.declared.cue.Cue.TheVariants.{Lead, Ask, Take, Give, Pass}
 use Rattle.swd_port.specs.declared.register.Register.{Register}
 use Rattle.swd_port.specs.declared.register.Register.TheVariants.{CtrlStatRead}
-use Rattle.swd_port.specs.Stories.{IsPortSeen, is_port_ask}
+use Rattle.swd_port.specs.Steps.{IsPortSeen, is_port_ask}
 use Rattle.swd_host.specs.Calls.{EngineTurned}
 use Rattle.swd_host.specs.Early.{DataKeepsResumedOpening}
 use Rattle.swd_host.specs.Events.{EngineMeetsRead}

@@ -9,7 +9,7 @@ use Rattle.swd_port.specs.declared.cue.Cue.{Cue}
 use Rattle.swd_port.specs.declared.cue.Cue.TheVariants.{Lead, Ask, Take, Give, Pass}
 use Rattle.swd_port.specs.declared.wire.Due.{Due}
 use Rattle.swd_port.specs.declared.wire.Due.TheVariants.{Nothing}
-use Rattle.swd_port.specs.Stories.{IsPortSeen, IsPortStep, port_due_once, is_port_ask}
+use Rattle.swd_port.specs.Steps.{IsPortSeen, IsPortStep, port_due_once, is_port_ask}
 use Rattle.swd_host.specs.Calls.{EngineTurned, EngineTurns}
 use Rattle.swd_host.specs.Engines.{IsEnginePhaseCue, engine_cue_at}
 use Rattle.swd_host.specs.Progress.{engine_is_quiet, engine_moves_first}

@@ -3,7 +3,7 @@ use Rattle.std.specs.Prelude.{◌≡◌, false, Option, Some, List, [], ◌∷�
 use Rattle.swd_port.specs.declared.access.Access.{Access}
 use Rattle.swd_port.specs.declared.call.Call.{Call}
 use Rattle.swd_port.specs.declared.cue.Cue.TheVariants.{Lead}
-use Rattle.swd_port.specs.Stories.{IsPortSeen}
+use Rattle.swd_port.specs.Steps.{IsPortSeen}
 use Rattle.swd_host.specs.declared.engine.Engine.{Engine}
 use Rattle.swd_host.specs.Engines.{engine_cue}
 use Rattle.swd_host.specs.Replies.{EngineTookReply}

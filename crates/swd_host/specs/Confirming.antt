@@ -7,7 +7,7 @@ use Rattle.swd_port.specs.declared.cue.Cue.TheVariants.{Ask, Give}
 use Rattle.swd_port.specs.Answers.{is_exempt_register}
 use Rattle.swd_port.specs.Port.{port_register}
 use Rattle.swd_port.specs.Registers.{port_select_zero}
-use Rattle.swd_port.specs.Stories.{is_port_ask}
+use Rattle.swd_port.specs.Steps.{is_port_ask}
 use Rattle.swd_host.specs.declared.task.Bursts.{Bursts}
 use Rattle.swd_host.specs.declared.task.Bursts.TheVariants.{Writes}
 use Rattle.swd_host.specs.Sent.{host_awaits_drw}

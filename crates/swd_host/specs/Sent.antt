@@ -20,7 +20,7 @@ use Rattle.swd_port.specs.declared.register.Register.TheVariants.{ResendRead, Rd
 use Rattle.swd_port.specs.declared.register.Register.TheVariants.{CswWrite, TarRead, TarWrite, DrwRead, DrwWrite}
 use Rattle.swd_port.specs.declared.register.Register.TheVariants.{ApOtherRead, ApOtherWrite}
 use Rattle.swd_port.specs.Port.{port_request_for}
-use Rattle.swd_port.specs.Stories.{is_port_ask}
+use Rattle.swd_port.specs.Steps.{is_port_ask}
 use Rattle.swd_host.specs.declared.outcome.End.TheVariants.{All}
 use Rattle.swd_host.specs.Reports.{HostReport}
 

@@ -6,7 +6,7 @@ use Rattle.swd_port.specs.declared.access.Answer.{Answer}
 use Rattle.swd_port.specs.declared.access.Answer.TheVariants.{Written}
 use Rattle.swd_port.specs.declared.call.Call.{Call}
 use Rattle.swd_port.specs.declared.register.Register.TheVariants.{DrwWrite}
-use Rattle.swd_port.specs.Stories.{is_port_ask}
+use Rattle.swd_port.specs.Steps.{is_port_ask}
 use Rattle.swd_host.specs.declared.engine.Ahead.{Ahead}
 use Rattle.swd_host.specs.declared.engine.Ahead.TheVariants.{Unsent, Sent as NextSent, Failed}
 use Rattle.swd_host.specs.declared.engine.Engine.{Engine}

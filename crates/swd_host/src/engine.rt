@@ -3,7 +3,7 @@ ghost use Rattle.std.specs.Prelude.{◌≡◌, ◌+◌, ◌<◌, ◌≤◌, ◌*
 ghost use Rattle.swd_port.specs.declared.wire.Due.TheVariants.{Nothing};
 ghost use Rattle.swd_bits.specs.Phases.{data_phase_word};
 ghost use Rattle.swd_port.specs.Port.{Port};
-ghost use Rattle.swd_port.specs.Stories.{IsPortSeen, is_port_ask};
+ghost use Rattle.swd_port.specs.Steps.{IsPortSeen, is_port_ask};
 ghost use Rattle.swd_port.specs.CueKinds.{is_port_send, is_port_take};
 ghost use Rattle.swd_host.specs.Events.{EngineMeets, EngineMeetsRead, EngineMeetsSent};
 ghost use Rattle.swd_host.specs.Early.{AckKeepsResumedOpening, DataKeepsResumedOpening, CueKeepsResumedOpening};

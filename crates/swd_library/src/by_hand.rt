@@ -1,6 +1,6 @@
 //! The engine without a wire: it returns what to send, and takes what was seen.
 ghost use Rattle.std.specs.Prelude.{◌≤◌};
-ghost use Rattle.swd_port.specs.Stories.{IsPortSeen};
+ghost use Rattle.swd_port.specs.Steps.{IsPortSeen};
 
 use crate::whole::{BASE, Failure, IMAGE, writes};
 use std::alloc::Global;

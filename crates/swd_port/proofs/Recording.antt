@@ -19,7 +19,8 @@ use Rattle.swd_port.specs.Answers.{Reply, Okay, Waits, Faults, Silent}
 use Rattle.swd_port.specs.Asking.{PortAsksNow, port_after_reply, port_reply, PortKeepsOrGivesUp}
 use Rattle.swd_port.specs.Moving.{PortTakesNow, PortGivesNow, PortPassesNow}
 use Rattle.swd_port.specs.Leading.{PortLeadsNow}
-use Rattle.swd_port.specs.Stories.{IsPortStep, FitsStory, port_at, port_due_by}
+use Rattle.swd_port.specs.Steps.{IsPortStep}
+use Rattle.swd_port.specs.Stories.{FitsStory, port_at, port_due_by}
 use Rattle.swd_port.specs.Reached.{accesses_once_completed, accesses_of_completion, accesses_of_step}
 use Rattle.swd_port.specs.Reached.{accesses_of_story, story_before}
 

@@ -28,7 +28,8 @@ use Rattle.swd_port.specs.Moving.{port_bits_driven, port_after_take, PortArrival
 use Rattle.swd_port.specs.Moving.{port_arrival, port_arrival_of, port_after_arrival, port_after_pass}
 use Rattle.swd_port.specs.Moving.{port_value_forgotten, tar_after_write, pending_after_write}
 use Rattle.swd_port.specs.Leading.{port_after_lead}
-use Rattle.swd_port.specs.Stories.{IsPortStep, port_due_by, port_at, FitsStory}
+use Rattle.swd_port.specs.Steps.{IsPortStep}
+use Rattle.swd_port.specs.Stories.{port_due_by, port_at, FitsStory}
 use Rattle.swd_port.specs.Laws.NeverStuck.{PortReadsWords, BusReadsWords}
 use Rattle.swd_port.specs.Laws.Sessions.{PortHasWords, PortCallsChosen, PortSession, pending_write_word}
 use Rattle.swd_port.specs.Laws.Sessions.{FitsStoryUnder, IsPortStepUnder}

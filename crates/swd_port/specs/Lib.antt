@@ -22,6 +22,7 @@ pub mod Port
 pub mod Reached
 pub mod Reaching
 pub mod Registers
+pub mod Steps
 pub mod Stories
 pub mod Transfers
 pub mod Transports

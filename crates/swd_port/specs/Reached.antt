@@ -9,7 +9,8 @@ use Rattle.swd_port.specs.declared.cue.Cue.TheVariants.{Lead, Ask, Take, Give, P
 use Rattle.swd_port.specs.Port.{Port, Target, Drw}
 use Rattle.swd_port.specs.Choices.{Choice}
 use Rattle.swd_port.specs.Completion.{PortCompletes, pending_access_at}
-use Rattle.swd_port.specs.Stories.{IsPortStep, FitsStory, port_at}
+use Rattle.swd_port.specs.Steps.{IsPortStep}
+use Rattle.swd_port.specs.Stories.{FitsStory, port_at}
 
 -- the access of a pending transfer at an address
 abbrev pub pending_accesses : Option Drw → ℕ → List Access

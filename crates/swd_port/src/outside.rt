@@ -1,7 +1,8 @@
 //! A wire over a transport of which nothing is proved.
 ghost use Rattle.std.specs.Prelude.{◌≡◌, ◌<◌, ◌^◌, ◌++◌, ◌∷◌, ℕ, Bool, List, [], true, false};
 ghost use Rattle.swd_port.specs.Port.{Port};
-ghost use Rattle.swd_port.specs.Stories.{port_due_by, port_due_once, port_at, FitsStory, IsPortSeen};
+ghost use Rattle.swd_port.specs.Steps.{port_due_once, IsPortSeen};
+ghost use Rattle.swd_port.specs.Stories.{port_due_by, port_at, FitsStory};
 ghost use Rattle.swd_port.specs.CueKinds.{is_port_send};
 ghost use Rattle.swd_port.specs.Transports.{PortAttempt, port_attempt, PortTransportSteps, PortTransportFetches};
 ghost use Rattle.swd_port.specs.Transports.{PortTransportHas, PortTransportHasOver};

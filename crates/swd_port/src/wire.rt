@@ -7,7 +7,7 @@ ghost use Rattle.swd_port.specs.Choices.{Mark};
 ghost use Rattle.swd_port.specs.Leading.{PortMayLead, PortLeads};
 ghost use Rattle.swd_port.specs.Asking.{PortAsks};
 ghost use Rattle.swd_port.specs.Moving.{PortTakes, PortGives, PortPasses};
-ghost use Rattle.swd_port.specs.Stories.{PortMayStep, IsPortSeen, IsPortStep, port_due_once};
+ghost use Rattle.swd_port.specs.Steps.{PortMayStep, IsPortSeen, IsPortStep, port_due_once};
 ghost use Rattle.swd_port.specs.declared.call.Call.{Call};
 
 use crate::coming::{Coming, Pieces};

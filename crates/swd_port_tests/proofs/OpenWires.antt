@@ -17,7 +17,7 @@ use Rattle.swd_port.specs.declared.cue.Cue.{Cue}
 use Rattle.swd_port.specs.declared.cue.Cue.TheVariants.{Lead, Ask, Take, Give, Pass}
 use Rattle.swd_port.specs.Asking.{PortAsks}
 use Rattle.swd_port.specs.Leading.{PortLeads}
-use Rattle.swd_port.specs.Stories.{IsPortStep}
+use Rattle.swd_port.specs.Steps.{IsPortStep}
 use Rattle.swd_port.proofs.WorkedLaws.{port_case_choice, port_case_choice_fits}
 
 -- the port machine behind it, of which nothing but the line resets is seen

@@ -14,7 +14,7 @@ use Rattle.swd_port.specs.declared.cue.Cue.TheVariants.{Lead, Ask, Take as CueTa
 use Rattle.swd_port.specs.declared.wire.Due.{Due}
 use Rattle.swd_port.specs.declared.wire.Due.TheVariants.{Nothing, Take, Give, Pass, Lost}
 use Rattle.swd_port.specs.Leading.{PortMayLead}
-use Rattle.swd_port.specs.Stories.{IsPortSeen}
+use Rattle.swd_port.specs.Steps.{IsPortSeen}
 use Rattle.swd_recorder.specs.declared.in_hand.InHand.{InHand}
 use Rattle.swd_recorder.specs.Calls.{IsRecordedRange, recorded_call_items}
 use Rattle.swd_recorder.specs.Chains.{RecordedPlace, Clear, Low, High, Switched, Silent, recorded_place_of}

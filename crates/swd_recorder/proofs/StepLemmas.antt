@@ -17,7 +17,8 @@ use Rattle.swd_port.specs.declared.cue.Cue.TheVariants.{Lead, Ask, Take as CueTa
 use Rattle.swd_port.specs.declared.wire.Due.{Due}
 use Rattle.swd_port.specs.declared.wire.Due.TheVariants.{Nothing, Take, Give, Pass, Lost}
 use Rattle.swd_port.specs.Leading.{PortMayLead}
-use Rattle.swd_port.specs.Stories.{PortMayStep, IsPortStep, is_port_ask, port_due_by, port_due_once}
+use Rattle.swd_port.specs.Steps.{PortMayStep, IsPortStep, is_port_ask, port_due_once}
+use Rattle.swd_port.specs.Stories.{port_due_by}
 use Rattle.swd_port.specs.Port.{Port}
 use Rattle.swd_port.specs.Laws.Calls.{port_with_asked}
 use Rattle.swd_port.proofs.CallLaws.{port_counted_apart}

@@ -8,7 +8,7 @@ use Rattle.swd_trace.specs.declared.item.Item.TheVariants.{Reset, Switch, Idle, 
 use Rattle.swd_port.specs.declared.call.Call.{Call}
 use Rattle.swd_port.specs.declared.cue.Cue.{Cue}
 use Rattle.swd_port.specs.declared.cue.Cue.TheVariants.{Lead}
-use Rattle.swd_port.specs.Stories.{PortMayStep, is_port_ask}
+use Rattle.swd_port.specs.Steps.{PortMayStep, is_port_ask}
 use Rattle.swd_port.specs.declared.wire.Due.{Due}
 use Rattle.swd_port.specs.declared.wire.Due.TheVariants.{Nothing, Take, Give, Pass, Lost}
 use Rattle.swd_recorder.specs.declared.in_hand.InHand.{InHand}

@@ -1,7 +1,7 @@
 //! Transactions that aren't complete yet.
 ghost use Rattle.std.specs.Prelude.{◌≡◌, ◌<◌, true, IfNone};
 ghost use Rattle.swd_recorder.specs.Chains.{is_recorded_no_ack};
-ghost use Rattle.swd_port.specs.Stories.{IsPortSeen};
+ghost use Rattle.swd_port.specs.Steps.{IsPortSeen};
 ghost use Rattle.swd_recorder.specs.Items.{recorded_ack_seen, recorded_in_hand_once};
 ghost use Rattle.swd_recorder.specs.Steps.{is_recorded_inside};
 

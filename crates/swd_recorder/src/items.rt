@@ -1,6 +1,6 @@
 //! The items of a wire's calls, appended call by call.
 ghost use Rattle.std.specs.Prelude.{◌≡◌, ◌≢◌, true, false, [], ◌∷◌};
-ghost use Rattle.swd_port.specs.Stories.{IsPortSeen};
+ghost use Rattle.swd_port.specs.Steps.{IsPortSeen};
 ghost use Rattle.swd_trace.specs.declared.item.Item.{Item};
 ghost use Rattle.swd_recorder.specs.Chains.{Clear, RecordedMayJoin, is_recorded_chain, recorded_lone_idle};
 ghost use Rattle.swd_recorder.specs.Items.{recorded_idle_in};

@@ -1,7 +1,7 @@
 //! The items of one call of a wire.
 ghost use Rattle.std.specs.Prelude.{◌≡◌, ◌≤◌, ◌<◌, ◌+◌, ◌^◌, ◌++◌};
 ghost use Rattle.arrayvec.specs.ArrayVec.{array_vec_len};
-ghost use Rattle.swd_port.specs.Stories.{IsPortSeen};
+ghost use Rattle.swd_port.specs.Steps.{IsPortSeen};
 ghost use Rattle.swd_recorder.specs.Calls.{IsRecordedCue, IsRecordedRange, recorded_call_items};
 ghost use Rattle.swd_recorder.specs.Calls.{recorded_cut_items, recorded_switch_items};
 ghost use Rattle.swd_recorder.specs.Items.{recorded_ack_seen, recorded_high_items, recorded_low_items, recorded_moved};

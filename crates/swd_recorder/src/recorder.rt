@@ -1,7 +1,8 @@
 //! A wire that forwards every call to another one, and keeps what was sent and seen.
 ghost use Rattle.std.specs.Prelude.{◌≡◌, ◌≤◌, ◌+◌, ◌↔◌, true, false, List, [], ◌∷◌};
 ghost use Rattle.swd_port.specs.declared.wire.Due.TheVariants.{Nothing, Lost};
-ghost use Rattle.swd_port.specs.Stories.{PortMayStep, IsPortSeen, IsPortStep, port_due_by, port_due_once};
+ghost use Rattle.swd_port.specs.Steps.{PortMayStep, IsPortSeen, IsPortStep, port_due_once};
+ghost use Rattle.swd_port.specs.Stories.{port_due_by};
 ghost use Rattle.swd_port.specs.declared.call.Call.{Call};
 ghost use Rattle.swd_port.specs.Laws.Calls.{port_with_asked};
 ghost use Rattle.swd_trace.specs.Listed.{AreLegalItems};

@@ -1,6 +1,7 @@
 //! The calls of a wire, and their items.
 ghost use Rattle.std.specs.Prelude.{◌≡◌, ◌≤◌, ◌+◌, true, false, [], ◌∷◌};
-ghost use Rattle.swd_port.specs.Stories.{PortMayStep, IsPortSeen, port_due_by};
+ghost use Rattle.swd_port.specs.Steps.{PortMayStep, IsPortSeen};
+ghost use Rattle.swd_port.specs.Stories.{port_due_by};
 ghost use Rattle.swd_recorder.specs.Items.{recorded_in_hand_by, recorded_items_by, recorded_items_of, RecordingCutOff};
 ghost use Rattle.swd_recorder.specs.Kept.{RecorderAdds, recorder_nothing_kept, recorder_kept_of};
 ghost use Rattle.swd_recorder.specs.Steps.{IsRecordedPlaced, recorded_transactions, recorded_due_count};

@@ -23,7 +23,7 @@ use Rattle.swd_port.specs.Asking.{PortAsks}
 use Rattle.swd_port.specs.Leading.{PortLeads}
 use Rattle.swd_port.specs.Port.{Port}
 use Rattle.swd_port.specs.Made.{port_made}
-use Rattle.swd_port.specs.Stories.{IsPortSeen, IsPortStep, PortMayStep, port_due_once, is_port_ask}
+use Rattle.swd_port.specs.Steps.{IsPortSeen, IsPortStep, PortMayStep, port_due_once, is_port_ask}
 use Rattle.swd_recorder.specs.declared.in_hand.InHand.{InHand}
 use Rattle.swd_recorder.specs.Items.{recorded_ack_seen, recorded_answered, recorded_high_items, recorded_in_hand_by}
 use Rattle.swd_recorder.specs.Items.{recorded_in_hand_once, recorded_items_by, recorded_items_of, recorded_joined}

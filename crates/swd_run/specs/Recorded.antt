@@ -6,7 +6,7 @@ use Rattle.swd_port.specs.Leading.{port_line_awaits}
 use Rattle.swd_port.specs.Bus.{Bus}
 use Rattle.swd_port.specs.Port.{Port}
 use Rattle.swd_port.specs.Made.{port_made}
-use Rattle.swd_port.specs.Stories.{IsPortSeen, IsPortStep, PortMayStep, port_due_once}
+use Rattle.swd_port.specs.Steps.{IsPortSeen, IsPortStep, PortMayStep, port_due_once}
 use Rattle.swd_recorder.specs.Items.{recorded_items_by}
 use Rattle.swd_recorder.specs.Steps.{recorder_ask_count, recorded_transactions}
 use Rattle.swd_observer.specs.Runs.{Accounted}

@@ -6,7 +6,7 @@ use Rattle.swd_port.specs.declared.access.Answer.{Answer}
 use Rattle.swd_port.specs.declared.call.Call.{Call}
 use Rattle.swd_port.specs.declared.cue.Cue.{Cue}
 use Rattle.swd_port.specs.declared.cue.Cue.TheVariants.{Lead}
-use Rattle.swd_port.specs.Stories.{IsPortSeen}
+use Rattle.swd_port.specs.Steps.{IsPortSeen}
 use Rattle.swd_port.specs.CueKinds.{is_port_send}
 use Rattle.swd_host.specs.declared.engine.Engine.{Engine}
 use Rattle.swd_host.specs.declared.outcome.End.{End}

@@ -3,7 +3,7 @@ ghost use Rattle.std.specs.Prelude.{◌≡◌, ◌+◌, ◌≤◌, [], length, L
 ghost use Rattle.std.specs.Prelude.{Some, None, slice_get, ℕ};
 ghost use Rattle.swd_steps.specs.declared.run.Run.{Run as RunType};
 ghost use Rattle.swd_port.specs.declared.access.Access.{Access as AccessType};
-ghost use Rattle.swd_port.specs.Stories.{IsPortSeen};
+ghost use Rattle.swd_port.specs.Steps.{IsPortSeen};
 ghost use Rattle.swd_host.specs.declared.engine.Ahead.TheVariants.{Unsent};
 ghost use Rattle.swd_host.specs.declared.task.Bursts.TheVariants.{Reads, Writes};
 ghost use Rattle.swd_host.specs.Engines.{EngineHasCue, IsEnginePhaseCue, engine_begun, engine_bursts, engine_cue};

@@ -2,7 +2,7 @@
 ghost use Rattle.std.specs.Prelude.{◌≡◌, ◌<◌, ◌^◌};
 ghost use Rattle.swd_port.specs.declared.cue.Cue.TheVariants.{Ask};
 ghost use Rattle.swd_port.specs.declared.wire.Due.TheVariants.{Nothing, Take, Give, Pass};
-ghost use Rattle.swd_port.specs.Stories.{PortMayStep, IsPortSeen, IsPortStep};
+ghost use Rattle.swd_port.specs.Steps.{PortMayStep, IsPortSeen, IsPortStep};
 ghost use Rattle.swd_port.specs.Port.{PortTally, port_idle_link};
 ghost use Rattle.swd_port.specs.Made.{port_made};
 ghost use Rattle.swd_port.specs.PlainBus.{bus_of};

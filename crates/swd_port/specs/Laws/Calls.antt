@@ -10,7 +10,7 @@ use Rattle.swd_port.specs.declared.cue.Cue.{Cue}
 use Rattle.swd_port.specs.Port.{Port, Seen}
 use Rattle.swd_port.specs.Answers.{port_due_after}
 use Rattle.swd_port.specs.Asking.{PortAsks}
-use Rattle.swd_port.specs.Stories.{IsPortStep, port_due_once, is_port_ask}
+use Rattle.swd_port.specs.Steps.{IsPortStep, port_due_once, is_port_ask}
 use Rattle.swd_port.specs.Outcomes.{IsPortNoAck}
 
 -- what is due after a call follows from the cue and what was seen

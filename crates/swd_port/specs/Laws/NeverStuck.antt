@@ -10,7 +10,7 @@ use Rattle.swd_port.specs.Port.{Port, Target}
 use Rattle.swd_port.specs.Choices.{Mark, IsPortMark, Choice}
 use Rattle.swd_port.specs.Completion.{PortCompletes}
 use Rattle.swd_port.specs.Asking.{PortAsksNow}
-use Rattle.swd_port.specs.Stories.{IsPortStep, is_port_ask}
+use Rattle.swd_port.specs.Steps.{IsPortStep, is_port_ask}
 
 -- the words that these accesses write have 32 bits
 abbrev pub AreWordAccesses : List Access → Type 0

@@ -13,7 +13,8 @@ use Rattle.swd_port.specs.Asking.{PortAsksNow}
 use Rattle.swd_port.specs.Choices.{Choice, Mark, IsPortMark}
 use Rattle.swd_port.specs.Completion.{PortCompletes}
 use Rattle.swd_port.specs.Moving.{port_bits_driven}
-use Rattle.swd_port.specs.Stories.{IsPortSeen, IsPortStep, FitsStory, port_at}
+use Rattle.swd_port.specs.Steps.{IsPortSeen, IsPortStep}
+use Rattle.swd_port.specs.Stories.{FitsStory, port_at}
 use Rattle.swd_port.specs.Laws.NeverStuck.{PortReadsWords, BusReadsWords}
 
 -- the word that a pending transfer writes

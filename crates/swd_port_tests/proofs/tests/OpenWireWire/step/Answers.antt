@@ -1,7 +1,7 @@
 use Rattle.std.proofs.Common.{subst, sym, inl, inr}
 use Rattle.swd_port.specs.declared.cue.Cue.TheVariants.{Lead, Ask, Take, Give, Pass}
 use Rattle.swd_port.specs.declared.wire.Due.TheVariants.{Nothing, Lost}
-use Rattle.swd_port.specs.Stories.{IsPortStep}
+use Rattle.swd_port.specs.Steps.{IsPortStep}
 use Rattle.swd_port_tests.proofs.OpenWires.{open_wire_port, open_wire_step}
 use Rattle.swd_port_tests.proofs.tests.OpenWireWire.step.Goals as goal
 

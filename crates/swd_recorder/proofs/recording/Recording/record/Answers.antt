@@ -1,6 +1,7 @@
 use Rattle.std.proofs.Common.{◌≡◌, ◌≤◌, ◌+◌, true, false, List, ◌∷◌, Option, sym, subst, ap, ◌∙◌}
 use Rattle.swd_port.specs.declared.call.Call.{Call}
-use Rattle.swd_port.specs.Stories.{port_due_by, port_due_once}
+use Rattle.swd_port.specs.Steps.{port_due_once}
+use Rattle.swd_port.specs.Stories.{port_due_by}
 use Rattle.swd_recorder.specs.declared.in_hand.InHand.{InHand}
 use Rattle.swd_recorder.specs.Items.{recorded_items_of, recorded_in_hand_by, recorded_items_by, RecordingCutOff}
 use Rattle.swd_recorder.specs.Kept.{RecorderAdds, recorder_kept_of}

@@ -1,7 +1,7 @@
 use Rattle.std.proofs.Common.{ℕ, refl, sym, subst, inl}
 use Rattle.swd_port.specs.declared.cue.Cue.{Cue}
 use Rattle.swd_port.specs.Asking.{PortAsks}
-use Rattle.swd_port.specs.Stories.{IsPortStep}
+use Rattle.swd_port.specs.Steps.{IsPortStep}
 use Rattle.swd_target.specs.Benches.{bench_port}
 use Rattle.swd_target.proofs.bench.BenchWire.step.Goals as goal
 

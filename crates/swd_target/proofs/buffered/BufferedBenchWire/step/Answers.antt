@@ -1,7 +1,7 @@
 use Rattle.std.proofs.Common.{ℕ, ◌≡◌, refl, sym, ap, subst, inl}
 use Rattle.swd_port.specs.declared.cue.Cue.{Cue}
 use Rattle.swd_port.specs.Asking.{PortAsks}
-use Rattle.swd_port.specs.Stories.{IsPortStep}
+use Rattle.swd_port.specs.Steps.{IsPortStep}
 use Rattle.swd_target.specs.Benches.{bench_port}
 use Rattle.swd_target.specs.Buffered.{buffered_port, buffered_simulation, buffered_link, buffered_next_mark}
 use Rattle.swd_target.specs.Buffered.{port_giving, simulation_giving_at_cue}
