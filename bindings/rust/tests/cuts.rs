@@ -91,7 +91,8 @@ impl Cable {
         if failure.is_some() {
             return Err(Unplugged);
         }
-        Ok(levels.pop_front().unwrap_or(level))
+        // (a clock that is driven takes no level)
+        Ok(if drive.is_none() { levels.pop_front().unwrap_or(level) } else { level })
     }
 }
 
