@@ -145,7 +145,7 @@ async function judge(lib, items, { start, clean, overrun }, stopped) {
   if (crowded >= 0 && (outside < 0 || crowded < outside))
     return { kind: "crowded", place: crowded, line: `crowded @${crowded}` };
   if (outside >= 0)
-    return { kind: "outside", place: outside, line: `outside @${outside}` };
+    return { kind: "outside", place: outside, line: `outside @${outside}: overrun detection may have acted` };
   return { kind: "fits", place: -1, line: `fits ${items.size}${began ? ` from @${began}` : ""}`
     + `${faults ? ` faults ${faults}` : ""}${gaps ? ` gaps ${gaps}` : ""}` };
 }

@@ -38,6 +38,7 @@ use Rattle.swd_checker.proofs.BeginsLemmas.{checked_from_known, checked_from_mor
 use Rattle.swd_checker.proofs.BeginsLemmas.{checker_waits_at_first}
 use Rattle.swd_checker.proofs.BeginsLemmas.{checker_shows_other, checker_unbegun_before, checker_waits_more}
 use Rattle.swd_text.specs.Sinks.{sink_leads_join}
+use Rattle.swd_check.specs.declared.recent.Recent.{Recent}
 use Rattle.swd_check.specs.declared.rules.Rules.{Rules}
 use Rattle.swd_check.specs.declared.why.Broken.{Broken}
 use Rattle.swd_check.specs.declared.check.Check.{Check}
@@ -244,6 +245,21 @@ pub check_rules_outside : (item : Item) (place : ℕ) (r now : Rules) → now.ch
 check_rules_outside item place r now same left_at stays outside answers = λ start clean items unbroken at h.
     check_rules_stay item start clean items r now same stays left_at (h.outside outside)
     (λ inside. absurd (h.left outside (sym left_at ∙ inside))) answers h
+
+-- where a session leaves the model before an item
+pub check_rules_left : (start : CheckStart) (clean : Bool) (items : List Item) (r now : Rules)
+    → CheckerLeaves r.checker now.checker → (now.outside ≡ None → ⊥) → now.is_answered ≡ r.is_answered
+    → CheckRulesHold start clean r items → CheckRulesHold start clean now items
+check_rules_left start clean items r now leaves left answered h =
+    let there : now.checker.in_gap ≡ true = ap (λ (g : CheckedGap). g.in_gap) leaves.gap in record {
+      holds = λ s t starts run. leaves.holds t t (record { identification = refl }) (h.holds s t starts run);
+      wire = leaves.wire ∙ h.wire;
+      gap = inl there;
+      outside = λ e. there;
+      left = λ e f. left f;
+      answered = λ e. h.answered (sym answered ∙ e);
+      fits = λ inside. absurd (left inside);
+    }
 
 -- and where a session leaves the model
 pub check_rules_leave : (item : Item) (place : ℕ) (r now : Rules) → CheckerLeaves r.checker now.checker
@@ -681,10 +697,11 @@ check_skips check mid now count first next =
     subst (λ l. CheckTakes l check now) (replicate_more count (Junk false))
     (sink_leads_join CheckHolds check mid now (replicate count (Junk false)) (Junk false ∷ []) first next)
 
--- whether the bits of a damaged word are told changes nothing that is known of the items
-check_rules_untold : (start : CheckStart) (clean : Bool) (r : Rules) (untold : Bool) (items : List Item)
-    → CheckRulesHold start clean r items → CheckRulesHold start clean (record r { untold = untold }) items
-check_rules_untold start clean r untold items h = record {
+-- what came last, and whether the bits of a damaged word are told, change nothing that is known of the items
+pub check_rules_noted : (start : CheckStart) (clean : Bool) (r : Rules) (recent : Recent) (untold : Bool)
+    (items : List Item) → CheckRulesHold start clean r items
+    → CheckRulesHold start clean (record r { recent = recent; untold = untold }) items
+check_rules_noted start clean r recent untold items h = record {
   holds = h.holds;
   wire = h.wire;
   gap = h.gap;
@@ -699,7 +716,7 @@ pub check_untold : {A : Type 0} (i : CheckIndex) (check : Check A) (untold : Boo
     → CheckHolds i check items
     → CheckHolds i (record check { rules = record check.rules { untold = untold } }) items
 check_untold i check untold items h = record {
-  rules = λ e. check_rules_untold i.start i.clean check.rules untold items (h.rules e);
+  rules = λ e. check_rules_noted i.start i.clean check.rules check.rules.recent untold items (h.rules e);
   unbroken = h.unbroken;
   broke = h.broke;
   place = h.place;

@@ -25,7 +25,7 @@ abbrev pub IsCheckedCount : ℕ → Checked → Type 0
 IsCheckedCount count (Fits items from faults gaps) = items ≡ count
 IsCheckedCount count (Breaks broken) = Unit {0}
 IsCheckedCount count (Crowded place) = Unit {0}
-IsCheckedCount count (Outside place) = Unit {0}
+IsCheckedCount count (Outside place why) = Unit {0}
 
 -- the number of parts, at most 2^64 - 1
 abbrev pub check_count : List Part → ℕ

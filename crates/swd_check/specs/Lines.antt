@@ -21,9 +21,13 @@ abbrev pub check_broken : Broken → List ℕ → List ℕ
 check_broken broken why = (((codes "breaks @" ++ decimal broken.place) ++ codes " ") ++ item_line (Tx broken.tx))
     ++ codes ": " ++ why
 
+-- where a session left the model, and why, which is text for a reader
+abbrev pub check_outside : ℕ → List ℕ → List ℕ
+check_outside place why = (codes "outside @" ++ decimal place) ++ codes ": " ++ why
+
 abbrev pub check_line : Checked → List ℕ → List ℕ
 check_line (Fits items from faults gaps) why = ((((codes "fits " ++ decimal items) ++ check_from from)
     ++ check_counted (codes " faults ") faults) ++ check_counted (codes " gaps ") gaps)
 check_line (Breaks broken) why = check_broken broken why
 check_line (Crowded place) why = codes "crowded @" ++ decimal place
-check_line (Outside place) why = codes "outside @" ++ decimal place
+check_line (Outside place left) why = check_outside place why

@@ -1,14 +1,15 @@
 //! The check of a trace.
-ghost use Rattle.std.specs.Prelude.{◌≡◌, true, false, None, List, [], ◌∷◌, replicate, unwrap_or};
+ghost use Rattle.std.specs.Prelude.{◌≡◌, ℕ, true, false, None, Some, List, [], ◌∷◌, replicate, unwrap_or};
 ghost use Rattle.swd_bits.specs.declared.tx.Tx.{Tx as Transaction};
 ghost use Rattle.swd_trace.specs.declared.item.Item.{Item};
 ghost use Rattle.swd_observer.specs.Traces.{observed_item_len};
 ghost use Rattle.swd_check.specs.Checks.{IsCheckedCount};
-ghost use Rattle.swd_check.specs.Watched.{CheckIndex, CheckHolds, CheckTakes, CheckSays, CheckJudges};
+ghost use Rattle.swd_check.specs.Watched.{CheckIndex, CheckHolds, CheckTakes, CheckSays, CheckJudges, CheckBroke};
 ghost use Rattle.swd_check.specs.Watched.{check_index, check_tx, checked_rest};
 
 use crate::beside::Beside;
 use crate::checked::Checked;
+use crate::leaving::Leaving;
 use crate::plain::PlainMemory;
 use crate::rules::{Rules, Stand};
 use crate::why::{Broken, Why};
@@ -42,6 +43,8 @@ pub struct Check<A: Allocator> {
     looks: bool,
     beside: Beside<A>,
     broken: Option<Broken>,
+    /// Why the target may keep the standard all the same, if it may.
+    excused: Option<Leaving>,
 }
 
 impl<A: Allocator + Copy> Check<A> {
@@ -56,6 +59,7 @@ impl<A: Allocator + Copy> Check<A> {
             looks: beside.looks(),
             beside,
             broken: None,
+            excused: None,
         }
     }
 
@@ -119,15 +123,22 @@ impl<A: Allocator + Copy> Check<A> {
         ensures says { (i : CheckIndex) (seen : List Item) → CheckHolds i self.now seen → CheckSays i seen result }
     {
         if let Some(broken) = self.broken {
-            return Checked::Breaks(broken);
+            return broken_at(broken, self.excused);
         }
         match (
             self.rules.outside(),
             self.crowded(),
             self.rules.is_answered(),
         ) {
-            (Some(place), Some(before), _) if before < place => Checked::Crowded { place: before },
-            (Some(place), _, _) => Checked::Outside { place },
+            (Some(left), Some(before), _) if before < left.place => {
+                Checked::Crowded { place: before }
+            }
+            (Some(left), _, _) => {
+                Checked::Outside {
+                    place: left.place,
+                    why: left.why,
+                }
+            }
             (None, Some(place), _) => Checked::Crowded { place },
             (None, None, false) => Checked::Crowded { place: 0 },
             (None, None, true) => Checked::Fits {
@@ -217,6 +228,7 @@ impl<A: Allocator + Copy> Check<A> {
         ensures { CheckJudges (check_tx tx.now place is_first) self.old self.new }
     {
         if let Some(reason) = self.rules.reason(tx) {
+            self.excused = self.rules.excuse(&reason, tx);
             self.broken = Some(Broken {
                 place,
                 tx: *tx,
@@ -239,6 +251,7 @@ impl<A: Allocator + Copy> Check<A> {
     {
         match self.rules.reason(tx) {
             Some(reason) => {
+                self.excused = self.rules.excuse(&reason, tx);
                 self.broken = Some(Broken {
                     place,
                     tx: *tx,
@@ -280,6 +293,22 @@ impl<A: Allocator + Copy> Check<A> {
     {
         self.observer.observer = Observer::new();
         self.beside.forget();
+    }
+}
+
+// Returns what is said where an item breaks a rule. Where the target may keep the standard, it isn't decided.
+fn broken_at(broken: Broken, excused: Option<Leaving>) -> Checked
+    ensures count { (items : ℕ) → IsCheckedCount items result }
+    ensures says { (i : CheckIndex) (seen : List Item) → CheckBroke i seen (Some broken) → CheckSays i seen result }
+{
+    match excused {
+        Some(why) => {
+            Checked::Outside {
+                place: broken.place,
+                why,
+            }
+        }
+        None => Checked::Breaks(broken),
     }
 }
 

@@ -2,8 +2,9 @@
 ghost use Rattle.std.specs.Prelude.{◌≡◌, ◌+◌, ◌<◌, ◌≤◌, ◌++◌, ℕ, List, length};
 ghost use Rattle.std.specs.Fmt.{decimal};
 ghost use Rattle.arrayvec.specs.ArrayString.{array_string_len};
-ghost use Rattle.swd_check.specs.Lines.{check_line, check_broken, check_counted, check_from};
+ghost use Rattle.swd_check.specs.Lines.{check_line, check_broken, check_counted, check_from, check_outside};
 
+use crate::leaving::Leaving;
 use crate::why::{Broken, LONGEST_WHY};
 use arrayvec::ArrayString;
 use swd_trace::{Item, LONGEST_LINE};
@@ -31,10 +32,10 @@ pub enum Checked {
     Crowded {
         place: u64,
     },
-    /// It isn't decided: at this place the session left the model, by overrun detection, or the bits of a word that was
-    /// read with wrong parity weren't told.
+    /// It isn't decided: at this place the session left the model, though the target may keep the standard.
     Outside {
         place: u64,
+        why: Leaving,
     },
 }
 
@@ -63,10 +64,7 @@ impl Checked {
                 line.push_str("crowded @");
                 push_count(&mut line, *place);
             }
-            Checked::Outside { place } => {
-                line.push_str("outside @");
-                push_count(&mut line, *place);
-            }
+            Checked::Outside { place, why } => push_outside(&mut line, *place, why),
         }
         line
     }
@@ -106,6 +104,18 @@ fn push_counted(line: &mut Line, name: &str, count: u64)
         line.push_str(name);
         push_count(line, count);
     }
+}
+
+// Appends where the session left the model, and why.
+fn push_outside(line: &mut Line, place: u64, left: &Leaving)
+    requires { array_string_len line.old ≤ 0 }
+    ensures bytes { (why : List ℕ) × (line.new.bytes ≡ line.old.bytes ++ check_outside place why) }
+    ensures len { array_string_len line.new < LONGEST_CHECKED }
+{
+    line.push_str("outside @");
+    push_count(line, place);
+    line.push_str(": ");
+    line.push_str(left.text().as_str());
 }
 
 // Appends the item that breaks a rule, and why.

@@ -10,19 +10,22 @@ ghost use Rattle.swd_check.specs.Watched.{CheckRulesHold, CheckRulesTake, IsChec
 ghost use Rattle.swd_check.specs.Watched.{is_check_untold};
 
 use crate::check::CheckOptions;
+use crate::leaving::{Leaving, Left};
 use crate::overrun::Overrun;
+use crate::recent::Recent;
 use swd_bits::{Tx, TxEnd};
 use swd_checker::{Checker, Origins, Reason, Verdict};
 use swd_trace::Item;
 
-/// The rules of the port model, by a checker, and where the session left the model by overrun detection.
+/// The rules of the port model, by a checker, and where the session left the model.
 #[derive(Drop)]
 pub(crate) struct Rules {
     checker: Checker,
     origins: Origins,
     overrun: Overrun,
-    /// The place at which the session first left the model.
-    outside: Option<u64>,
+    recent: Recent,
+    /// Where the session first left the model.
+    outside: Option<Left>,
     /// Whether it left the model and there was no line reset since.
     is_outside: bool,
     /// Whether the target acknowledged a request that was checked.
@@ -52,6 +55,7 @@ impl Rules {
             checker: Checker::of(options.start, options.clean),
             origins: Origins::new(),
             overrun: Overrun::new(options.overrun, options.clean),
+            recent: Recent::new(options.clean),
             outside: None,
             is_outside: false,
             is_answered: false,
@@ -73,7 +77,9 @@ impl Rules {
         ensures broken { ((tx : Transaction) → item.now ≡ Item.Tx tx → ⊥)
             → self.new.checker.broken ≡ self.old.checker.broken }
     {
+        let ends = self.recent.ends(item);
         match item {
+            Item::Reset(_) if ends => self.leave_and_reset(item, place),
             Item::Reset(_) => self.reset(item, place),
             Item::Idle(_) => self.checker.watch(item, place),
             _ => self.follow(item, place),
@@ -86,12 +92,13 @@ impl Rules {
         ensures broken { (result ≡ Stand.Inside → ⊥) → self.new.checker.broken ≡ self.old.checker.broken }
         ensures untold { is_check_untold self.old.untold tx.now ≡ true → result ≡ Stand.Inside → ⊥ }
     {
-        let leaves = self.overrun.leaves(tx) | is_untold(self.untold, tx);
+        self.recent.transact(tx);
+        let overruns = self.overrun.leaves(tx);
         if self.is_outside {
             return Stand::Outside;
         }
-        if leaves {
-            self.leave(place);
+        if let Some(why) = leaving(overruns, is_untold(self.untold, tx)) {
+            self.leave(place, why);
             return Stand::Leaves;
         }
         self.follow(&Item::Tx(*tx), place);
@@ -105,6 +112,11 @@ impl Rules {
         ensures goes_on { result ≡ None → self.now.checker.broken ≡ None }
     {
         self.checker.reason(tx, &self.origins)
+    }
+
+    /// Returns why the last transaction may keep the standard, though it breaks a rule for this reason, if it may.
+    pub(crate) fn excuse(&self, reason: &Reason, tx: &Tx) -> Option<Leaving> {
+        Leaving::of(reason, tx, self.recent.is_burst())
     }
 
     /// Returns whether all items so far were checked and decided.
@@ -132,8 +144,8 @@ impl Rules {
         self.checker.faults()
     }
 
-    /// Returns the place at which the session first left the model.
-    pub(crate) fn outside(&self) -> Option<u64>
+    /// Returns where the session first left the model.
+    pub(crate) fn outside(&self) -> Option<Left>
         ensures { result ≡ self.now.outside }
     {
         self.outside
@@ -213,8 +225,18 @@ impl Rules {
         }
     }
 
+    // Leaves the model, and takes the line reset that ends that.
+    fn leave_and_reset(&mut self, item: &Item, place: u64)
+        ensures takes { CheckRulesTake item.now place self.old self.new }
+        ensures broken { ((tx : Transaction) → item.now ≡ Item.Tx tx → ⊥)
+            → self.new.checker.broken ≡ self.old.checker.broken }
+    {
+        self.leave(place, Leaving::SentOn);
+        self.reset(item, place);
+    }
+
     // Leaves the model up to the next line reset.
-    fn leave(&mut self, place: u64)
+    fn leave(&mut self, place: u64, why: Leaving)
         ensures leaves { CheckerLeaves self.old.checker self.new.checker }
         ensures answered { self.new.is_answered ≡ self.old.is_answered }
         ensures outside { self.new.is_outside ≡ true }
@@ -222,8 +244,21 @@ impl Rules {
     {
         self.checker.leave();
         self.origins = Origins::new();
-        self.outside = self.outside.or(Some(place));
+        self.outside = self.outside.or(Some(Left { place, why }));
         self.is_outside = true;
+    }
+}
+
+// Returns why a transaction leaves the model, if it does.
+fn leaving(overruns: bool, is_untold: bool) -> Option<Leaving>
+    ensures { is_untold ≡ true → result ≡ None → ⊥ }
+{
+    if is_untold {
+        Some(Leaving::Untold)
+    } else if overruns {
+        Some(Leaving::Overrun)
+    } else {
+        None
     }
 }
 

@@ -17,20 +17,12 @@ pub fn session_status<E: Write>(errors: &mut E, verdict: &Option<Checked>, statu
     }
 }
 
-// Why a session isn't decided from a place on.
-const OUTSIDE: &str =
-    "there a word arrived damaged whose bits the probe doesn't tell, or overrun detection may have acted";
-
 // Prints the line of a verdict, and returns the status with it.
 fn checked_status<E: Write>(errors: &mut E, checked: &Checked, status: u8) -> u8
     ensures { result ≡ command_status_by checked.now status }
 {
     let _ = writeln!(errors, "{}", checked.line().as_str());
     match checked {
-        Checked::Outside { .. } => {
-            let _ = writeln!(errors, "swd: {OUTSIDE}");
-            status
-        }
         Checked::Breaks(_) if status == DONE => STOPPED,
         _ => status,
     }

@@ -21,8 +21,8 @@ Prints the verdict, one line:
                          the rule, what was expected, and since which item
   crowded @P             not decided from bit P on: too many states are
                          possible, or, at @0, there was not enough to begin
-  outside @P             not decided from bit P on: overrun detection is on, and
-                         there is WAIT, FAULT or a word with wrong parity
+  outside @P: WHY        not decided from bit P on: there the session leaves the
+                         model, and the target may keep the standard
 Behind fits N there may be:
   from @P                it was checked from bit P on
   faults F               at least F requests were damaged or lost

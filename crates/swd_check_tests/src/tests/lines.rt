@@ -38,7 +38,10 @@ fn checked(
     }
 }
 
-const AT_FIRST: &[(CheckOptions, &str)] = &[(OVERRUN, "outside @104"), (MADE, "fits 4")];
+const AT_FIRST: &[(CheckOptions, &str)] = &[
+    (OVERRUN, "outside @104: overrun detection may have acted"),
+    (MADE, "fits 4"),
+];
 
 // Overrun detection may be on before the first item.
 #[test]

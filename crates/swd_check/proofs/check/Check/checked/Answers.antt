@@ -11,3 +11,6 @@ returns-in-None-None-true-clause-says g c = λ i seen h. check_fits i c.args.sel
     (c.crowded.ensures.began c.in-None-None-true.is-1)
     (c.place_after_first.ensures ∙ ap (λ b. unwrap_or b 0) c.began.ensures)
     (sym c.is_answered.ensures ∙ c.in-None-None-true.if-this-true) h
+
+pub returns-in-Some-clause-count : goal.returns-in-Some-clause-count
+returns-in-Some-clause-count g c = c.broken_at.ensures.count c.args.items

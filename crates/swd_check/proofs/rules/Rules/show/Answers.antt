@@ -1,10 +1,15 @@
 use Rattle.std.proofs.Common.{◌≡◌, ◌∙◌, inl, true, false, refl, sym}
 use Rattle.swd_trace.specs.declared.item.Item.TheVariants.{Reset, Idle}
-use Rattle.swd_check.proofs.WatchLemmas.{check_rules_watch, answers_same}
+use Rattle.swd_check.proofs.WatchLemmas.{check_rules_watch, check_rules_noted, answers_same}
 use Rattle.swd_check.proofs.rules.Rules.show.Goals as goal
 
 pub returns-in-Reset-clause-takes : goal.returns-in-Reset-clause-takes
-returns-in-Reset-clause-takes c =
+returns-in-Reset-clause-takes c = λ start clean items unbroken at h.
+    c.leave_and_reset.ensures.takes start clean items unbroken at
+    (check_rules_noted start clean c.args.self.now c.ends-ends.new.self c.args.self.now.untold items h)
+
+pub returns-in-Reset-2-clause-takes : goal.returns-in-Reset-2-clause-takes
+returns-in-Reset-2-clause-takes c =
     let r = c.reset.ensures in
     check_rules_watch c.args.item.now c.args.place c.args.self.now c.reset.new.self
     (record { watches = r.watches; follows = r.follows; begins = r.begins; knows = r.knows }) r.place

@@ -9,8 +9,8 @@ pub returns-then-self-clause-takes : goal.returns-then-self-clause-takes
 returns-then-self-clause-takes c = check_rules_outside (Tx c.args.tx.now) c.args.place c.args.self.now _ refl refl
     refl c.if-self.true (λ e. inl e)
 
-pub returns-then-leaves-clause-takes : goal.returns-then-leaves-clause-takes
-returns-then-leaves-clause-takes c =
+pub returns-in-Some-clause-takes : goal.returns-in-Some-clause-takes
+returns-in-Some-clause-takes c =
     check_rules_leave (Tx c.args.tx.now) c.args.place c.args.self.now c.leave.new.self c.leave.ensures.leaves
     c.leave.ensures.left (answers_same (Tx c.args.tx.now) c.args.self.now c.leave.new.self c.leave.ensures.answered)
 
