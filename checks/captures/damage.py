@@ -254,9 +254,11 @@ def touched_and_whole(taken):
     return whole, touched
 
 
-def score(taken, listed):
-    """How many transactions are whole, how many of them are found, and how many are invented."""
+def score(taken, listed, counts=lambda line: True):
+    """How many transactions are whole, how many of them are found, and how many are invented, of those that count."""
     whole, touched = touched_and_whole(taken)
+    whole = {at: line for at, line in whole.items() if counts(line)}
+    listed = {(at, line) for at, line in listed if counts(line)}
     slack = range(-taken.slack, taken.slack + 1)
     near = range(-max(1, taken.slack), max(1, taken.slack) + 1)
     found = sum(any((at + off, line) in listed for off in slack) for at, line in whole.items())

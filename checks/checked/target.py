@@ -1,6 +1,8 @@
 """A debug port with a memory access port in Python, right or with one bug, and a host that sends it what it likes. Half of
 the right ones give a pending write up.
 
+A port with the bug csw_disabled or tar_low_bits is right, though the model's isn't so.
+
 `session(rng, bug, clean, start)` returns the items of a trace, in the form of `reference.py`.
 """
 BASE = 0x20000000
@@ -11,7 +13,7 @@ wderrclr_nothing wderrclr_all dapabort_clears not_posted rdbuff_zero rdbuff_last
 resend_once fault_executes tar_stays tar_always tar_by_8 tar_not_by_writes tar_within_256 error_silent
 error_is_damage reset_clears_flags reset_clears_power reset_clears_tar reset_clears_csw reset_no_damage
 status_swapped readok_always readok_any power_by_ack dpidr_even dpidr_changes bank_ignored csw_byte csw_off
-csw_disabled csw_clears_tar ap8_is_tar tar_low_bits tar_late parity_high clear_forgets_resend status_waits
+csw_clears_tar ap8_is_tar tar_late parity_high clear_forgets_resend status_waits
 abort_waits resend_no_fault unpowered_writes_ok damage_done_flagged stkerrclr_all rdbuff_transfers
 buffer_kept_in_bank resend_skips_rdbuff resend_moves_tar read_after_fault write_twice status_drops_write
 fifth_write_lost tar_by_1 tar_packed tar_within_4096 tar_stops_at_1024 error_late error_reads_zero error_loses_write
