@@ -94,7 +94,9 @@ impl Cable {
         if failure.is_some() {
             return Err(Unplugged);
         }
-        Ok(levels.pop_front().unwrap_or(level))
+        // Of a clock that is driven no level comes.
+        let taken = if drive.is_none() { levels.pop_front() } else { None };
+        Ok(taken.unwrap_or(level))
     }
 }
 
