@@ -61,7 +61,7 @@ fn the_first_byte_that_differs() {
 fn a_bus_error_says_how_far_it_came() {
     for (at, allowed) in [(1003, false), (1003, true), (403, false)] {
         let (mut line, there) = (line(), 1200 - at);
-        let image = pattern(there + 103, 2);
+        let image = pattern(there + 104, 2);
         let mut session = Session::new(&mut line, 8).bus_errors(allowed);
         let addr = BASE + at as u32;
         let is_stopped = |ended| match ended {
@@ -73,7 +73,7 @@ fn a_bus_error_says_how_far_it_came() {
         assert!(is_stopped(session.load(addr, &image)));
         let mut read = vec![0; image.len()];
         assert!(is_stopped(session.dump(addr, &mut read)));
-        assert_eq!((&read[..there], &read[there..]), (&image[..there], &[0; 103][..]));
+        assert_eq!((&read[..there], &read[there..]), (&image[..there], &[0; 104][..]));
         assert!(is_stopped(session.verify(addr, &image)));
     }
 }
