@@ -33,7 +33,8 @@ static bool checked(uint8_t clean, uint64_t spoils, uint8_t kind, uint64_t fault
 		return false;
 	verdict = monitor_end(&monitor);
 	monitor_print(&verdict);
-	return verdict.kind == kind && verdict.faults == faults;
+	/* Each bit belongs to an item. */
+	return verdict.kind == kind && verdict.faults == faults && monitor.place == board.target.cycles;
 }
 
 /* Whether there is no verdict, nor that of the monitor before, where the checker refuses what it is made with. */

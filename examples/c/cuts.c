@@ -1,7 +1,7 @@
 /*
  * A session whose line fails at each of its clocks in turn: inside a list, a poll, a block of reads and a load of
  * words. What the run says is compared with the log of the target's transfers. Then the run is continued, or given up,
- * or the target is opened anew, and words are polled.
+ * or the target is opened anew, and words are polled. At last a target doesn't keep a word, and one has no memory.
  *
  *	cuts [STEP]
  *
@@ -44,12 +44,15 @@ static struct swd_transfer writes[MOST_WRITES];
 static size_t written;
 
 /*
- * The line: how many clocks work before one fails, and how; whether one has failed, how many were asked for since, and
- * in how many the host drove against the target.
+ * The line: how many clocks work before one fails, and how; whether one has failed, how many were asked for since, in
+ * how many the host drove, and in how many of these against the target.
  */
-static unsigned long left, behind, contended;
+static unsigned long left, behind, driven, contended;
 static enum kind kind;
 static bool has_failed;
+
+/* Whether the board loses what is written to its second word. */
+static bool is_stuck;
 
 /* The levels that came over the line and weren't taken yet: more than one where that of a clock that failed came late.
  * */
@@ -60,6 +63,9 @@ static int clock_board(int drive)
 {
 	unsigned long before = board.transfers;
 	int bit = board_clock(&board, drive);
+	if (is_stuck)
+		board.words[1] = 0;
+	driven += drive != RELEASED;
 	contended += drive != RELEASED && bit != drive;
 	if (board.transfers != before && board.last.kind == SWD_WRITE && written < MOST_WRITES)
 		writes[written++] = board.last;
@@ -123,9 +129,11 @@ static bool open_board(void)
 /* Does a list over the open target. */
 static void act(const struct list *list, struct outcome *outcome)
 {
+	/* That of another call, which line_try has to clear. */
+	static const struct line_failure before = { true, 0x0aaaaaaaa, 10, 1 };
 	struct swd_cue cue = swd_run_opened(&outcome->run, list->accesses, list->count, list->is_block, TRIES);
 	memset(outcome->answers, 0, sizeof outcome->answers);
-	memset(&outcome->failure, 0, sizeof outcome->failure);
+	outcome->failure = before;
 	if (cue.kind != SWD_REFUSED)
 		line_try(&outcome->run, list->accesses, list->count, outcome->answers, &outcome->failure);
 }
@@ -199,10 +207,14 @@ static long deciding(const struct line_failure *failure)
 	return failure->made < 32 ? 31 - (long)failure->made : 0;
 }
 
-/* Leaves the cue inside which the line failed. It fails once more behind so many clocks, if it does so twice. */
+/*
+ * Leaves the cue inside which the line failed. It fails once more behind so many clocks, if it does so twice. The rest
+ * of a data phase is driven once, but for a clock of it that failed and was made.
+ */
 static bool leave(struct line_failure *failure, unsigned long again)
 {
 	enum kind how = kind;
+	unsigned long before = driven, most = failure->failed > 0 ? 34 - failure->made : 0;
 	work((unsigned long)-1, BEFORE);
 	if (how == TWICE && (long)again != deciding(failure))
 		work(again, how);
@@ -211,7 +223,7 @@ static bool leave(struct line_failure *failure, unsigned long again)
 			return false;
 	}
 	work((unsigned long)-1, BEFORE);
-	return true;
+	return driven - before <= most;
 }
 
 /* Brings the target to rest, and opens it: continues a run without accesses, whose line failed. */
@@ -341,6 +353,24 @@ static void add(struct list *list, uint32_t place, uint32_t word, uint8_t write)
 	access->write = write;
 }
 
+/* Says what is wrong where the target doesn't keep a word, or has no memory there. NULL if nothing is. */
+static const char *lose_word(void)
+{
+	static const uint32_t words[] = { 1, 2, 0 };
+	struct swd_run run;
+	bool is_found;
+	board_new(&board);
+	work((unsigned long)-1, BEFORE);
+	is_stuck = true;
+	swd_run_new(&run, TRIES);
+	is_found = line_program(&run, BOARD_BASE, words, 3);
+	is_stuck = false;
+	if (is_found)
+		return "a word that differs";
+	swd_run_new(&run, TRIES);
+	return line_program(&run, BOARD_BASE + 4 * (BOARD_WORDS - 2), words, 3) ? "a bus error" : NULL;
+}
+
 int main(int count, char **words)
 {
 	struct list lists[] = { { "a list", { { 0, 0, 0 } }, 0, 0 },
@@ -348,6 +378,7 @@ int main(int count, char **words)
 	                        { "a block", { { 0, 0, 0 } }, 0, 1 },
 	                        { "a load", { { 0, 0, 0 } }, 0, 0 } };
 	unsigned long step = count > 1 ? strtoul(words[1], NULL, 10) : 1, tried = 0, failed = 0;
+	const char *what;
 	uint32_t i;
 	add(&lists[0], 0, 0x00001001, 1);
 	add(&lists[0], 1, 0, 0);
@@ -360,6 +391,10 @@ int main(int count, char **words)
 	}
 	for (i = 0; i < sizeof lists / sizeof *lists; i++)
 		failed += cut_each(&lists[i], step > 0 ? step : 1, &tried);
+	what = lose_word();
+	if (what)
+		printf("found as written: %s\n", what);
+	failed += what != NULL;
 	printf("a line cut at %lu places: %lu wrong\n", tried, failed);
 	return failed == 0 ? 0 : 1;
 }

@@ -137,5 +137,6 @@ enum gpiod_line_value gpiod_line_request_get_value(struct gpiod_line_request *as
 {
 	if (offset != SWDIO || is_output(offset))
 		return (enum gpiod_line_value)refuse(EPERM);
-	return asked->level ? GPIOD_LINE_VALUE_ACTIVE : GPIOD_LINE_VALUE_INACTIVE;
+	/* Behind the rising edge the target changes its level: it is another one then. */
+	return asked->level != asked->clock ? GPIOD_LINE_VALUE_ACTIVE : GPIOD_LINE_VALUE_INACTIVE;
 }

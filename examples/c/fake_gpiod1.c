@@ -82,5 +82,6 @@ int gpiod_line_get_value(struct gpiod_line *line)
 {
 	if (line != &data_line || !line->requested || line->output)
 		return refuse(EPERM);
-	return seen;
+	/* Behind the rising edge the target changes its level: it is another one then. */
+	return seen != clock_line.level;
 }

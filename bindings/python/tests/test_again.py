@@ -155,6 +155,39 @@ class Identities(unittest.TestCase):
                     self.assertEqual(host.run([Read(BASE)]).words(), [word])
                 self.assertEqual(target.contended, 0)
 
+    def test_a_target_that_is_astray_and_closed(self):
+        """`close` doesn't forget where the last call left it: the next one brings it to rest first."""
+        for at in range(0, READ_CLOCKS - IDLE, 2):
+            with self.subTest(clock=at):
+                memory = PlainMemory(BASE, 4, 100)
+                target = PlainTarget(memory)
+                line = Damaged(target, [])
+                session = swd.Session(line)
+                session.open()
+                for word in (1, 2):
+                    memory.words[BASE] = word
+                    fail_at(line, at, OSError("unplugged"))
+                    self.assertRaises(swd.LineFailed, session.read, BASE)
+                    session.close()
+                    self.assertEqual(session.read(BASE), word)
+                self.assertEqual(target.contended, 0)
+
+    def test_the_rest_of_a_data_phase_is_sent_once(self):
+        """The line fails inside the data phase of a write, and then behind its rest, in each of the four released
+        clocks: the next call drives nothing before the line reset."""
+        for at in range(4):
+            line, _ = damaged()
+            session = swd.Session(line)
+            session.open()
+            # A request, a turnaround, an acknowledgement, a turnaround, and ten bits.
+            fail_at(line, 8 + 1 + 3 + 1 + 10, OSError("unplugged"))
+            self.assertRaises(swd.LineFailed, session.write, BASE, WORD)
+            fail_at(line, 23 + at, OSError("unplugged"))
+            self.assertRaises(swd.LineFailed, session.read, BASE)
+            before = len(line.calls)
+            self.assertEqual(session.read(BASE), 0)
+            self.assertEqual(line.calls[before:before + 4], ["-"] * 4)
+
 
 class Settling(unittest.TestCase):
     """Calls after one that was lost: they begin by bringing the target to rest. What fails then has a report of the

@@ -8,10 +8,10 @@ import unittest
 
 import swd
 from cuts import unsound
-from plain import PlainMemory, PlainTarget
+from plain import Damaged, PlainMemory, PlainTarget
 from swd import End, Read, Write
 from test_sessions import Sequenced
-from test_swd import BASE, PROGRAM, program_of_the_page
+from test_swd import BASE, PROGRAM, plan_of, program_of_the_page
 
 
 class Probe:
@@ -124,6 +124,23 @@ class Lines(unittest.TestCase):
                     break
                 count += 1
         self.assertGreater(count, 90)
+
+    def test_a_run_behind_one_that_was_lost(self):
+        """The target, which may be driving the line, is brought to rest first, each time."""
+        async def tried():
+            memory = PlainMemory(BASE, 4, 1000)
+            target = PlainTarget(memory)
+            # A run has 12 requests here, and 9 before it bring the target to rest.
+            marks = {12: "mute 0", 12 + 9 + 12: "mute 0"}
+            line = swd.AsyncSequences(Probe(Damaged(target, plan_of(marks))))
+            ended = []
+            for word in range(4):
+                memory.words[BASE] = word
+                report = await line.perform(swd.Run([Read(BASE)]))
+                ended.append((report.ended, *report.words()))
+            return ended, target.contended
+
+        self.assertEqual(asyncio.run(tried()), ([(End.LOST,), (End.LOST,), (End.ALL, 2), (End.ALL, 3)], 0))
 
     def test_a_probe_that_fails(self):
         async def tried():

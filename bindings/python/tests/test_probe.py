@@ -13,7 +13,8 @@ import unittest
 import unittest.mock
 
 import swd
-from swd import BusFault, End, Read, Value, Write, Written
+from swd import BusFault, End, Read, Value, Write, Written, _pieces
+from test_sessions import CtrlC
 from test_swd import ROOT
 
 sys.path.insert(0, os.path.join(ROOT, "checks"))
@@ -370,6 +371,9 @@ class TestFailures(unittest.TestCase):
             self.assertEqual(failed.exception.report.answers, ())
             simulated.target.complete()
             self.assertEqual(failed.exception.report.begun, len(simulated.bus.effects))
+            for _ in range(2):
+                with self.assertRaisesRegex(swd.LineFailed, "the probe is closed: the probe's reply is impossible"):
+                    session.read(BASE)
 
     def test_ctrl_c_while_a_reply_is_awaited_closes_the_probe(self):
         simulated = Simulated()
@@ -420,6 +424,26 @@ class TestFailures(unittest.TestCase):
             words = list(simulated.words.values())
             self.assertEqual(report.words(), words[:len(report.answers)])
             self.assertEqual(len(report.answers) + report.begun, len(simulated.bus.effects))
+
+    def test_ctrl_c_between_two_pieces(self):
+        """The list isn't whole then, though the piece is, and it is resumed."""
+        simulated = Simulated()
+        words, ends = list(simulated.words.values())[:40], set()
+        with simulated.session() as session:
+            for place, raised in Between.at_each(lambda: session.run_block(BASE, 40), ("c_return",)):
+                with self.subTest(place=place):
+                    report = swd.report_of(raised)
+                    self.assertEqual(report.words(), words[:len(report.answers)])
+                    ends.add((report.ended, len(report.answers)))
+                    if len(report.answers) < 40:
+                        self.assertEqual(session.resume(report.accesses, report).words(), words)
+        self.assertEqual(ends, {(End.LOST, 15), (End.LOST, 30), (End.ALL, 40)})
+
+
+class Between(CtrlC):
+    """Ctrl-C while a list goes on with its next piece."""
+
+    FILES = {_pieces.__file__}
 
 
 class Served:

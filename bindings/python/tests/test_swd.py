@@ -188,6 +188,16 @@ class Rows(unittest.TestCase):
             host.resume(accesses, lost)
         self.assertEqual(caught.exception.report, swd.Report((Written(),), 1, 1, End.LOST))
 
+    def test_resume_that_is_lost_later(self):
+        """What an earlier call started isn't in flight any more once it is answered."""
+        accesses = [Write(BASE + 16 * place, place) for place in range(3)]
+        # In the second write, and where the third would begin.
+        line = Damaged(PlainTarget(PlainMemory(BASE, 16, 16)), plan_of({15: "deaf", 15 + 13: "deaf"}))
+        host = swd.Host(line)
+        lost = host.run(accesses, check=False)
+        self.assertEqual(lost, swd.Report((Written(),), 1, 15, End.LOST))
+        self.assertEqual(host.resume(accesses, lost, check=False), swd.Report((Written(),) * 2, 0, 13, End.LOST))
+
     def test_wrong_identification(self):
         """The target's DPIDR is read as 2ba01476: its first bit and the parity bit are changed."""
         line = Damaged(PlainTarget(PlainMemory(BASE, 1, 1)), [])

@@ -12,7 +12,7 @@ use std::collections::VecDeque;
 use std::io::Write;
 use std::panic::{catch_unwind, AssertUnwindSafe};
 use std::rc::Rc;
-use swd::{block, Access, End, Error, Host, Identification, Line, Refused, Report, Session, Slot, Target};
+use swd::{block, Access, End, Error, Host, Identification, Line, Opening, Refused, Report, Session, Slot, Target};
 
 const DPIDR: Identification = Identification { word: 0x2ba0_1477 };
 /// The requests of an opening, and of a read over a target that is open.
@@ -43,14 +43,16 @@ struct Cable {
     fails: Rc<Cell<Option<(usize, Kind)>>>,
     /// The levels that came and weren't taken yet: more than one where that of a clock that failed came late.
     levels: Rc<RefCell<VecDeque<bool>>>,
-    /// In how many clocks the target drove another level than the host.
+    /// In how many clocks the target drove another level than the host, and in how many the host drove.
     contended: Rc<Cell<usize>>,
+    driven: Rc<Cell<usize>>,
 }
 
 impl Cable {
     fn new() -> Cable {
         let target = Rc::new(RefCell::new(Target::new(PlainMemory::new(BASE, 16, 1 << 20))));
-        Cable { target, clocks: Rc::default(), fails: Rc::default(), levels: Rc::default(), contended: Rc::default() }
+        let (clocks, fails, levels) = (Rc::default(), Rc::default(), Rc::default());
+        Cable { target, clocks, fails, levels, contended: Rc::default(), driven: Rc::default() }
     }
 
     /// Has the clock fail that comes after so many more.
@@ -82,6 +84,7 @@ impl Cable {
         // The level of a clock that failed is dropped.
         levels.clear();
         let level = self.target.borrow_mut().cycle(drive);
+        self.driven.set(self.driven.get() + usize::from(drive.is_some()));
         if drive.is_some_and(|bit| bit != level) {
             self.contended.set(self.contended.get() + 1);
         }
@@ -91,8 +94,9 @@ impl Cable {
         if failure.is_some() {
             return Err(Unplugged);
         }
-        // (a clock that is driven takes no level)
-        Ok(if drive.is_none() { levels.pop_front().unwrap_or(level) } else { level })
+        // Of a clock that is driven no level comes.
+        let taken = if drive.is_none() { levels.pop_front() } else { None };
+        Ok(taken.unwrap_or(level))
     }
 }
 
@@ -306,5 +310,61 @@ fn a_target_that_is_astray_is_identified() {
             assert_eq!(host.identify(), Ok(DPIDR), "{at}");
         }
         assert_eq!(seen.contended.get(), 0, "{at}");
+    }
+}
+
+// `close` doesn't forget where the last call left the target: the next one brings it to rest first.
+#[test]
+fn a_target_that_is_astray_and_closed() {
+    for at in 0..46 * POLL {
+        let mut line = Cable::new();
+        let (seen, mut session) = (line.clone(), Session::new(&mut line, 8));
+        session.open().unwrap();
+        for word in 1..3 {
+            seen.set(word);
+            seen.fail(at, Kind::Before);
+            assert!(matches!(session.read(BASE), Err(Error::Line { .. })), "{at}");
+            session.close();
+            assert_eq!(session.read(BASE), Ok(word), "{at}");
+        }
+        assert_eq!(seen.contended.get(), 0, "{at}");
+    }
+}
+
+// The line fails inside the data phase of a write, and then behind its rest, in each of the four released clocks. The
+// next call drives nothing before its line reset.
+#[test]
+fn the_rest_of_a_data_phase_is_sent_once() {
+    for at in 0..4 {
+        let mut line = Cable::new();
+        let (seen, mut session) = (line.clone(), Session::new(&mut line, 8));
+        session.open().unwrap();
+        // A request, a turnaround, an acknowledgement, a turnaround, and ten bits.
+        seen.fail(8 + 1 + 3 + 1 + 10, Kind::Before);
+        assert!(session.write(BASE, 1).is_err());
+        seen.fail(23 + at, Kind::Before);
+        assert!(session.read(BASE).is_err());
+        let driven = seen.driven.get();
+        seen.fail(4, Kind::Before);
+        assert!(session.read(BASE).is_err());
+        assert_eq!(seen.driven.get(), driven, "{at}");
+        assert_eq!(session.read(BASE), Ok(0), "{at}");
+    }
+}
+
+// What was read before isn't told of an identification whose line failed at its first clock.
+#[test]
+fn an_identification_that_reached_no_target() {
+    let mut line = Cable::new();
+    let (seen, mut session) = (line.clone(), Session::new(&mut line, 8));
+    assert_eq!(session.identify(), Ok(DPIDR));
+    for at in [23, 1] {
+        seen.fail(at, Kind::Before);
+        assert!(session.write(BASE, 1).is_err());
+        seen.fail(0, Kind::Before);
+        assert!(session.identify().is_err());
+        assert_eq!(session.opening(), Opening::default());
+        assert_eq!(session.identify(), Ok(DPIDR));
+        assert_eq!(session.opening().dpidr, Some(DPIDR));
     }
 }

@@ -56,23 +56,24 @@ fn the_first_byte_that_differs() {
     assert_eq!(text, "20000000 has 0a, and not ff");
 }
 
-// The memory ends behind 1,200 bytes: what lies before its end is done.
+// The memory ends behind 1,200 bytes: what lies before its end is done, in the first run and in a later one.
 #[test]
 fn a_bus_error_says_how_far_it_came() {
-    for allowed in [false, true] {
-        let (mut line, image) = (line(), pattern(300, 2));
+    for (at, allowed) in [(1003, false), (1003, true), (403, false)] {
+        let (mut line, there) = (line(), 1200 - at);
+        let image = pattern(there + 104, 2);
         let mut session = Session::new(&mut line, 8).bus_errors(allowed);
-        let addr = BASE + 1003;
+        let addr = BASE + at as u32;
         let is_stopped = |ended| match ended {
-            Err(ImageError::Stopped { done: 197, error: Error::BusFault { report, access, .. } }) => {
-                (report.ended, access.addr()) == (End::All, BASE + 1200)
+            Err(ImageError::Stopped { done, error: Error::BusFault { report, access, .. } }) => {
+                (done, report.ended, access.addr()) == (there, End::All, BASE + 1200)
             }
             _ => false,
         };
         assert!(is_stopped(session.load(addr, &image)));
-        let mut read = vec![0; 300];
+        let mut read = vec![0; image.len()];
         assert!(is_stopped(session.dump(addr, &mut read)));
-        assert_eq!((&read[..197], &read[197..]), (&image[..197], &[0; 103][..]));
+        assert_eq!((&read[..there], &read[there..]), (&image[..there], &[0; 104][..]));
         assert!(is_stopped(session.verify(addr, &image)));
     }
 }

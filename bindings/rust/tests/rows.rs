@@ -342,6 +342,20 @@ fn a_resumed_run_is_lost_again() {
     assert_eq!(report, Report { answered: 1, begun: 1, requests: 1, ended: End::Lost });
 }
 
+// What an earlier call started isn't in flight any more once it is answered. The marks are in the second write, and
+// where the third would begin.
+#[test]
+fn a_resumed_run_is_lost_later() {
+    let accesses = [write(BASE, WORD), write(BASE + 16, 1), write(BASE + 32, 2)];
+    let marks = plan_of(&[(15, Mark::Deaf), (15 + 13, Mark::Deaf)]);
+    let mut host = Host::new(Damaged::new(PlainMemory::new(BASE, 16, 16), marks), 8);
+    let mut slots = [Slot::EMPTY; 3];
+    let lost = report_of(host.run(&accesses, &mut slots));
+    assert_eq!(lost, Report { answered: 1, begun: 1, requests: 15, ended: End::Lost });
+    let report = report_of(host.resume(&accesses, &mut slots, &lost));
+    assert_eq!(report, Report { answered: 2, begun: 0, requests: 13, ended: End::Lost });
+}
+
 // At each clock in turn. Nothing is called after it, and what the report says is sure.
 #[test]
 fn lines_that_fail() {

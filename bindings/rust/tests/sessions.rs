@@ -482,6 +482,18 @@ fn no_slot_keeps_an_answer_of_another_list() {
     assert_eq!(left(&long[..1], Some(&lost)), [Some(Answer::Written), None]);
 }
 
+// Behind the answers that a resumed run begins with, no slot keeps one where the line fails at once.
+#[test]
+fn no_slot_keeps_an_answer_where_a_resumed_run_is_lost() {
+    let (list, mut slots) = ([Access::write(BASE, 1), Access::write(BASE + 4, 2)], [Slot::EMPTY; 2]);
+    let mut host = Host::new(line_with(&[]), 8);
+    host.run(&list, &mut slots).unwrap();
+    let lost = Report { answered: 1, begun: 0, requests: 0, ended: End::Lost };
+    host.line_mut().fails_at = Some(0);
+    assert!(host.resume(&list, &mut slots, &lost).is_err());
+    assert_eq!(slots.map(|slot| slot.answer()), [Some(Answer::Written), None]);
+}
+
 #[test]
 fn bus_errors() {
     let far = [Access::read(BASE), Access::read(0x3000_0000)];

@@ -144,6 +144,28 @@ fn a_run_that_is_dropped_at_each_await_is_continued() {
     }
 }
 
+// The run fails inside a data phase, inside its rest, and behind that.
+#[test]
+fn the_rest_of_a_data_phase_is_driven_once() {
+    let (accesses, mut slots, mut line) = (list(), [Slot::EMPTY; 6], line());
+    let mut run = Run::new(&accesses, &mut slots, 8).unwrap();
+    while !matches!(run.step(), Some(Step::Drive { count: 33, .. })) {
+        let levels = poll(made(run.step().unwrap(), &mut line, true), 2).unwrap().unwrap();
+        run.made(levels);
+    }
+    for (clocks, rest) in [(10, 23), (5, 18)] {
+        run.fail(clocks);
+        run.again(8).unwrap();
+        assert!(matches!(run.step(), Some(Step::Drive { count, .. }) if count == rest), "{rest}");
+    }
+    run.made(0);
+    for _ in 0..2 {
+        assert_eq!(run.step(), Some(Step::Release { count: 4 }));
+        run.fail(0);
+        run.again(8).unwrap();
+    }
+}
+
 #[test]
 fn what_is_refused() {
     let (accesses, mut slots) = (list(), [Slot::EMPTY; 6]);
