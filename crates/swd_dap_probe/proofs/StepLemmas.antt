@@ -11,10 +11,13 @@ use Rattle.swd_sequences.specs.Going.{SequenceClock}
 use Rattle.swd_dap_probe.specs.declared.settings.Settings.{Settings}
 use Rattle.swd_dap_probe.specs.declared.transaction.Answer.{Answer}
 use Rattle.swd_dap_probe.specs.declared.transaction.Answer.TheVariants.{Okay, Damaged, Wait, Fault, Missing}
-use Rattle.swd_dap_probe.specs.Transactions.{dap_value, dap_word_answer, DapBehind, reads, writes, waits, faults, misses}
+use Rattle.swd_dap_probe.specs.Transactions.{dap_value, dap_word_answer, DapBehind, reads}
+use Rattle.swd_dap_probe.specs.Transactions.{writes, waits, faults, misses}
 use Rattle.swd_dap_probe.specs.Transactions.{DapPersists, DapMade, DapMadeGo}
-use Rattle.swd_dap_probe.specs.Transfers.{DapStep, Makes, Tells, Seeks, Masks, Counts, DapRun, dap_run, dap_made, dap_told}
-use Rattle.swd_dap_probe.specs.Transfers.{dap_post, DapStops, DapByAnswer, DapByMatch, DapSeeks, DapPerforms, DapDoes}
+use Rattle.swd_dap_probe.specs.Transfers.{DapStep, Makes, Tells, Seeks, Masks}
+use Rattle.swd_dap_probe.specs.Transfers.{Counts, DapRun, dap_run, dap_made_by, dap_told}
+use Rattle.swd_dap_probe.specs.Transfers.{dap_post, DapStops, DapByAnswer}
+use Rattle.swd_dap_probe.specs.Transfers.{DapByMatch, DapSeeks, DapStepsGo, DapStepsMade}
 use Rattle.swd_dap_probe.specs.Transfers.{dap_asked, dap_asked_list, dap_next, dap_next_pending, dap_finish, dap_steps}
 use Rattle.swd_dap_probe.specs.Transfers.{dap_transfer_value, dap_block_by, dap_block_reads, dap_block_writes}
 use Rattle.swd_dap_probe.specs.declared.transfers.Asked.{Asked}
@@ -55,11 +58,11 @@ seeks_then (suc n) request wanted run mid to P Q made more value v one f (answer
 )
 
 pub performs_then : (settings : Settings) (from mid to : DapRun) (a b : List DapStep) (made more : List DapMade)
-    (value v : ℕ) → value ≡ 1 → DapPerforms settings from a made value mid → DapPerforms settings mid b more v to
-    → DapPerforms settings from (a ++ b) (made ++ more) v to
+    (value v : ℕ) → value ≡ 1 → DapStepsGo settings from a made value mid → DapStepsGo settings mid b more v to
+    → DapStepsGo settings from (a ++ b) (made ++ more) v to
 performs_then settings from mid to [] b made more value v one h k =
-    subst (λ x. DapPerforms settings from b (x ++ more) v to) (sym h.0)
-    (subst (λ x. DapPerforms settings x b more v to) h.2 k)
+    subst (λ x. DapStepsGo settings from b (x ++ more) v to) (sym h.0)
+    (subst (λ x. DapStepsGo settings x b more v to) h.2 k)
 performs_then settings from mid to (Counts ∷ a) b made more value v one h k =
     performs_then settings (dap_run (suc from.count) from.words from.mask) mid to a b made more value v one h k
 performs_then settings from mid to (Masks word ∷ a) b made more value v one h k =
@@ -98,7 +101,7 @@ seeks_stop (suc n) request wanted run to P Q made value f (answer, rest, e, h) =
 )
 
 pub performs_stop : (settings : Settings) (from to : DapRun) (a b : List DapStep) (made : List DapMade) (value : ℕ)
-    → (value ≡ 1 → ⊥) → DapPerforms settings from a made value to → DapPerforms settings from (a ++ b) made value to
+    → (value ≡ 1 → ⊥) → DapStepsGo settings from a made value to → DapStepsGo settings from (a ++ b) made value to
 performs_stop settings from to [] b made value not h = absurd (not h.1)
 performs_stop settings from to (Counts ∷ a) b made value not h =
     performs_stop settings (dap_run (suc from.count) from.words from.mask) to a b made value not h
@@ -131,6 +134,7 @@ equals a b e = eq-eqb a b e
 differs : (a b : ℕ) → (a ≡ b → ⊥) → (a == b) ≡ false
 differs a b e = ne_eqb a b e
 
+-- the number of the result where there is a request
 pub transfer_value : (count value : ℕ) → 0 < count → value ≡ dap_transfer_value count value
 transfer_value count value some =
     let not : count ≡ 0 → ⊥ = λ e. absurd (omega (arith, some, e)) in
@@ -140,13 +144,14 @@ word_isn't : (word : Option ℕ) (bits : ℕ) → dap_word_answer word ≡ Missi
 word_isn't None bits e = absurd (cc)
 word_isn't (Some word) bits e = absurd (cc)
 
--- the steps of a block that is not empty
+-- the steps of a block that is not empty and reads
 pub block_reads : (request : Request) (bytes : List ℕ) (n : ℕ) → 0 < n → request.read ≡ true
     → dap_block_by request bytes n ≡ dap_post request ++ dap_block_reads request n
 block_reads request bytes zero some e = absurd (omega (arith, some))
 block_reads request bytes (suc n) some e = ap (λ b. if b then dap_post request ++ dap_block_reads request (suc n)
     else dap_block_writes request (drop 5 bytes) 0 (suc n)) e
 
+-- and of one that writes
 pub block_writes : (request : Request) (bytes : List ℕ) (n : ℕ) → 0 < n → request.read ≡ false
     → dap_block_by request bytes n ≡ dap_block_writes request (drop 5 bytes) 0 n
 block_writes request bytes zero some e = absurd (omega (arith, some))
@@ -154,20 +159,23 @@ block_writes request bytes (suc n) some e = ap (λ b. if b then dap_post request
     else dap_block_writes request (drop 5 bytes) 0 (suc n)) e
 
 module _ {L : Type 0} (clock : SequenceClock L) (settings : Settings) where
-  pub does_none : (run : DapRun) (s : L) → DapDoes clock settings [] 1 run run s s
+  -- no step
+  pub does_none : (run : DapRun) (s : L) → DapStepsMade clock settings [] 1 run run s s
   does_none run s = record { made = []; go = refl; performs = (refl, refl, refl) }
 
+  -- steps that were all OK, and others behind them
   pub does_then : (a b : List DapStep) (value v : ℕ) (from mid to : DapRun) (s m t : L) → value ≡ 1
-      → DapDoes clock settings a value from mid s m → DapDoes clock settings b v mid to m t
-      → DapDoes clock settings (a ++ b) v from to s t
+      → DapStepsMade clock settings a value from mid s m → DapStepsMade clock settings b v mid to m t
+      → DapStepsMade clock settings (a ++ b) v from to s t
   does_then a b value v from mid to s m t one h k = record {
     made = h.made ++ k.made;
     go = made_append clock settings h.made k.made s m t h.go k.go;
     performs = performs_then settings from mid to a b h.made k.made value v one h.performs k.performs;
   }
 
+  -- steps of which one wasn't OK: those behind them make nothing
   pub does_stop : (a b : List DapStep) (value : ℕ) (from to : DapRun) (s t : L) → (value ≡ 1 → ⊥)
-      → DapDoes clock settings a value from to s t → DapDoes clock settings (a ++ b) value from to s t
+      → DapStepsMade clock settings a value from to s t → DapStepsMade clock settings (a ++ b) value from to s t
   does_stop a b value from to s t not h = record {
     made = h.made;
     go = h.go;
@@ -212,9 +220,9 @@ module _ {L : Type 0} (clock : SequenceClock L) (settings : Settings) where
   -- a transaction, whose word is not told
   pub does_make : (request : Request) (word : ℕ) (answer : Answer) (value : ℕ) (run : DapRun) (s t : L)
       → value ≡ dap_value answer → DapPersists clock settings request word answer s t
-      → DapDoes clock settings (Makes request word ∷ []) value run run s t
+      → DapStepsMade clock settings (Makes request word ∷ []) value run run s t
   does_make request word answer value run s t is h = record {
-    made = dap_made request word answer ∷ [];
+    made = dap_made_by request word answer ∷ [];
     go = (t, h, refl);
     performs = (
       answer,
@@ -228,9 +236,9 @@ module _ {L : Type 0} (clock : SequenceClock L) (settings : Settings) where
   pub does_tell : (request : Request) (answer : Answer) (value count : ℕ) (words told : List ℕ) (mask : ℕ) (s t : L)
       → value ≡ dap_value answer → told ≡ words ++ dap_told answer
       → DapPersists clock settings request 0 answer s t
-      → DapDoes clock settings (Tells request ∷ []) value (dap_run count words mask) (dap_run count told mask) s t
+      → DapStepsMade clock settings (Tells request ∷ []) value (dap_run count words mask) (dap_run count told mask) s t
   does_tell request answer value count words told mask s t is e h = record {
-    made = dap_made request 0 answer ∷ [];
+    made = dap_made_by request 0 answer ∷ [];
     go = (t, h, refl);
     performs = (
       answer,
@@ -250,17 +258,18 @@ module _ {L : Type 0} (clock : SequenceClock L) (settings : Settings) where
   pub record SeeksGo (n : ℕ) (request : Request) (wanted : ℕ) (run : DapRun) (value : ℕ) (s t : L) : Type 0 where
     pub made : List DapMade
     pub go : DapMadeGo clock settings made s t
-    pub seeks : DapSeeks n request wanted run (λ rest. DapPerforms settings run [] rest value run) made value run
+    pub seeks : DapSeeks n request wanted run (λ rest. DapStepsGo settings run [] rest value run) made value run
 
   -- If the reads that are left go by from here, all of them did.
   abbrev pub SeeksLead : Request → ℕ → ℕ → ℕ → L → L → Type 0
   SeeksLead request wanted mask n s0 s = (count : ℕ) (words : List ℕ) (value : ℕ) (t : L)
       → SeeksGo n request wanted (dap_run count words mask) value s t
-      → DapDoes clock settings (dap_post request ++ Seeks request wanted ∷ []) value (dap_run count words mask)
+      → DapStepsMade clock settings (dap_post request ++ Seeks request wanted ∷ []) value (dap_run count words mask)
       (dap_run count words mask) s0 t
 
+  -- before the first read
   pub seeks_first : (request : Request) (wanted mask n value : ℕ) (s0 s : L) → n ≡ suc settings.matches → value ≡ 1
-      → ((run : DapRun) → DapDoes clock settings (dap_post request) value run run s0 s)
+      → ((run : DapRun) → DapStepsMade clock settings (dap_post request) value run run s0 s)
       → SeeksLead request wanted mask n s0 s
   seeks_first request wanted mask n value s0 s e one h = λ count words v t k.
       let run = dap_run count words mask in
@@ -268,6 +277,7 @@ module _ {L : Type 0} (clock : SequenceClock L) (settings : Settings) where
       does_then (dap_post request) (Seeks request wanted ∷ []) value v run run run s0 s t one (h run)
       (record { made = all.made; go = all.go; performs = all.seeks })
 
+  -- a word that doesn't match
   pub seeks_next : (request : Request) (wanted mask n m word : ℕ) (answer : Answer) (s0 s t : L) → m ≡ suc n
       → answer ≡ Okay word → (bit_and word mask ≡ wanted → ⊥)
       → DapPersists clock settings request 0 answer s t → SeeksLead request wanted mask m s0 s
@@ -275,49 +285,51 @@ module _ {L : Type 0} (clock : SequenceClock L) (settings : Settings) where
   seeks_next request wanted mask n m word answer s0 s t e is other h lead = λ count words v u k.
       let run = dap_run count words mask in
       lead count words v u (subst (λ x. SeeksGo x request wanted run v s u) (sym e) (record {
-        made = dap_made request 0 (Okay word) ∷ k.made;
+        made = dap_made_by request 0 (Okay word) ∷ k.made;
         go = (t, subst (λ x. DapPersists clock settings request 0 x s t) is h, k.go);
         seeks = (
           Okay word,
           k.made,
           refl,
-          subst (λ b. DapByMatch b (DapPerforms settings run [] k.made v run)
-              (DapSeeks n request wanted run (λ rest. DapPerforms settings run [] rest v run) k.made v run))
+          subst (λ b. DapByMatch b (DapStepsGo settings run [] k.made v run)
+              (DapSeeks n request wanted run (λ rest. DapStepsGo settings run [] rest v run) k.made v run))
               (sym (differs _ _ other)) k.seeks,
         );
       }))
 
+  -- the word that matches
   pub seeks_found : (request : Request) (wanted mask n m word : ℕ) (answer : Answer) (s0 s t : L) → m ≡ suc n
       → answer ≡ Okay word → bit_and word mask ≡ wanted
       → DapPersists clock settings request 0 answer s t → SeeksLead request wanted mask m s0 s
       → (count : ℕ) (words : List ℕ)
-      → DapDoes clock settings (dap_post request ++ Seeks request wanted ∷ []) 1 (dap_run count words mask)
+      → DapStepsMade clock settings (dap_post request ++ Seeks request wanted ∷ []) 1 (dap_run count words mask)
       (dap_run count words mask) s0 t
   seeks_found request wanted mask n m word answer s0 s t e is same h lead count words =
       let run = dap_run count words mask in
       lead count words 1 t (subst (λ x. SeeksGo x request wanted run 1 s t) (sym e) (record {
-        made = dap_made request 0 (Okay word) ∷ [];
+        made = dap_made_by request 0 (Okay word) ∷ [];
         go = (t, subst (λ x. DapPersists clock settings request 0 x s t) is h, refl);
         seeks = (
           Okay word,
           [],
           refl,
-          subst (λ b. DapByMatch b (DapPerforms settings run [] [] 1 run)
-              (DapSeeks n request wanted run (λ rest. DapPerforms settings run [] rest 1 run) [] 1 run))
+          subst (λ b. DapByMatch b (DapStepsGo settings run [] [] 1 run)
+              (DapSeeks n request wanted run (λ rest. DapStepsGo settings run [] rest 1 run) [] 1 run))
               (sym (equals _ _ same)) (refl, refl, refl),
         );
       }))
 
+  -- a read that isn't OK
   pub seeks_fail : (request : Request) (wanted mask n m value : ℕ) (answer : Answer) (s0 s t : L) → m ≡ suc n
       → value ≡ dap_value answer → ((word : ℕ) → answer ≡ Okay word → ⊥)
       → DapPersists clock settings request 0 answer s t → SeeksLead request wanted mask m s0 s
       → (count : ℕ) (words : List ℕ)
-      → DapDoes clock settings (dap_post request ++ Seeks request wanted ∷ []) value (dap_run count words mask)
+      → DapStepsMade clock settings (dap_post request ++ Seeks request wanted ∷ []) value (dap_run count words mask)
       (dap_run count words mask) s0 t
   seeks_fail request wanted mask n m value answer s0 s t e is not h lead count words =
       let run = dap_run count words mask in
       lead count words value t (subst (λ x. SeeksGo x request wanted run value s t) (sym e) (record {
-        made = dap_made request 0 answer ∷ [];
+        made = dap_made_by request 0 answer ∷ [];
         go = (t, h, refl);
         seeks = (
           answer,
@@ -329,7 +341,7 @@ module _ {L : Type 0} (clock : SequenceClock L) (settings : Settings) where
 
   pub seeks_last : (request : Request) (wanted mask m : ℕ) (s0 s : L) → m ≡ 0 → SeeksLead request wanted mask m s0 s
       → (count : ℕ) (words : List ℕ)
-      → DapDoes clock settings (dap_post request ++ Seeks request wanted ∷ []) 17 (dap_run count words mask)
+      → DapStepsMade clock settings (dap_post request ++ Seeks request wanted ∷ []) 17 (dap_run count words mask)
       (dap_run count words mask) s0 s
   seeks_last request wanted mask m s0 s e lead count words =
       let run = dap_run count words mask in
@@ -342,23 +354,24 @@ module _ {L : Type 0} (clock : SequenceClock L) (settings : Settings) where
   -- If the steps that are left are performed from here, all of them are from there.
   abbrev pub StepsLead : List DapStep → DapRun → List DapStep → DapRun → L → L → Type 0
   StepsLead steps from left run s0 s = (value : ℕ) (to : DapRun) (t : L)
-      → DapDoes clock settings left value run to s t → DapDoes clock settings steps value from to s0 t
+      → DapStepsMade clock settings left value run to s t → DapStepsMade clock settings steps value from to s0 t
 
   -- one more request is done
   pub counts_next : (steps : List DapStep) (from : DapRun) (a tail : List DapStep) (value place : ℕ)
       (words told : List ℕ) (mask masked : ℕ) (s0 s m : L) → value ≡ 1
-      → DapDoes clock settings a value (dap_run place words mask) (dap_run place told masked) s m
+      → DapStepsMade clock settings a value (dap_run place words mask) (dap_run place told masked) s m
       → StepsLead steps from (a ++ Counts ∷ tail) (dap_run place words mask) s0 s
       → StepsLead steps from tail (dap_run (place + 1) told masked) s0 m
   counts_next steps from a tail value place words told mask masked s0 s m one h lead = λ v to t k.
-      let c = subst (λ x. DapDoes clock settings tail v (dap_run x told masked) to m t) (add-one place) k in
-      lead v to t (does_then a (Counts ∷ tail) value v (dap_run place words mask) (dap_run place told masked) to s m t one
+      let c = subst (λ x. DapStepsMade clock settings tail v (dap_run x told masked) to m t) (add-one place) k in
+      lead v to t (does_then a (Counts ∷ tail) value v (dap_run place words mask) (dap_run place told masked) to s m t
+      one
       h (record { made = c.made; go = c.go; performs = c.performs }))
 
   -- one isn't
   pub counts_stop : (steps : List DapStep) (from : DapRun) (a tail : List DapStep) (value : ℕ) (run to : DapRun)
-      (s0 s m : L) → (value ≡ 1 → ⊥) → DapDoes clock settings a value run to s m
-      → StepsLead steps from (a ++ Counts ∷ tail) run s0 s → DapDoes clock settings steps value from to s0 m
+      (s0 s m : L) → (value ≡ 1 → ⊥) → DapStepsMade clock settings a value run to s m
+      → StepsLead steps from (a ++ Counts ∷ tail) run s0 s → DapStepsMade clock settings steps value from to s0 m
   counts_stop steps from a tail value run to s0 s m not h lead =
       lead value to m (does_stop a (Counts ∷ tail) value run to s m not h)
 
@@ -375,11 +388,12 @@ module _ {L : Type 0} (clock : SequenceClock L) (settings : Settings) where
       (dap_asked_list n (drop (dap_item_shape Transfers rest).request rest))) run s0 s) (sym e)
       (subst (λ k. StepsLead steps from (dap_steps p (dap_asked_list k rest)) run s0 s) left lead)
 
+  -- a request of a list is done
   pub transfers_next : (steps : List DapStep) (from : DapRun) (p becomes : Pending) (asked : Asked)
       (count place : ℕ) (rest behind words told : List ℕ) (mask masked value : ℕ) (s0 s m : L) → place < count
       → asked ≡ dap_asked rest → behind ≡ drop (dap_item_shape Transfers rest).request rest → value ≡ 1
       → becomes ≡ dap_next_pending p asked
-      → DapDoes clock settings (dap_next p asked) value (dap_run place words mask) (dap_run place told masked) s m
+      → DapStepsMade clock settings (dap_next p asked) value (dap_run place words mask) (dap_run place told masked) s m
       → StepsLead steps from (dap_steps p (dap_asked_list (count - place) rest)) (dap_run place words mask) s0 s
       → StepsLead steps from (dap_steps becomes (dap_asked_list (count - (place + 1)) behind))
       (dap_run (place + 1) told masked) s0 m
@@ -394,23 +408,26 @@ module _ {L : Type 0} (clock : SequenceClock L) (settings : Settings) where
       (counts_next steps from (dap_next p asked) (dap_steps pending (dap_asked_list n more)) value place words told mask
       masked s0 s m one h (list_lead steps from (dap_run place words mask) p asked count place rest s0 s l ea lead)))
 
+  -- one isn't
   pub transfers_stop : (steps : List DapStep) (from run to : DapRun) (p : Pending) (asked : Asked) (count place : ℕ)
       (rest : List ℕ) (value : ℕ) (s0 s m : L) → place < count → asked ≡ dap_asked rest → (value ≡ 1 → ⊥)
-      → DapDoes clock settings (dap_next p asked) value run to s m
+      → DapStepsMade clock settings (dap_next p asked) value run to s m
       → StepsLead steps from (dap_steps p (dap_asked_list (count - place) rest)) run s0 s
-      → DapDoes clock settings steps value from to s0 m
+      → DapStepsMade clock settings steps value from to s0 m
   transfers_stop steps from run to p asked count place rest value s0 s m l e not h lead =
       counts_stop steps from (dap_next p asked) (dap_steps (dap_next_pending p asked)
-      (dap_asked_list (count - (place + 1)) (drop (dap_item_shape Transfers rest).request rest))) value run to s0 s m not
+      (dap_asked_list (count - (place + 1)) (drop (dap_item_shape Transfers rest).request rest))) value run to s0 s m
+      not
       h (list_lead steps from run p asked count place rest s0 s l e lead)
 
+  -- behind the last
   pub transfers_last : (steps : List DapStep) (from : DapRun) (p : Pending) (count place : ℕ)
       (rest words told : List ℕ) (mask value : ℕ) (s0 s m : L) → count ≤ place
-      → DapDoes clock settings (dap_finish p) value (dap_run place words mask) (dap_run place told mask) s m
+      → DapStepsMade clock settings (dap_finish p) value (dap_run place words mask) (dap_run place told mask) s m
       → StepsLead steps from (dap_steps p (dap_asked_list (count - place) rest)) (dap_run place words mask) s0 s
-      → DapDoes clock settings steps value from (dap_run place told mask) s0 m
+      → DapStepsMade clock settings steps value from (dap_run place told mask) s0 m
   transfers_last steps from p count place rest words told mask value s0 s m l h lead =
       let left : count - place ≡ 0 = omega (arith, l) in
       lead value (dap_run place told mask) m
-      (subst (λ x. DapDoes clock settings (dap_steps p (dap_asked_list x rest)) value
+      (subst (λ x. DapStepsMade clock settings (dap_steps p (dap_asked_list x rest)) value
       (dap_run place words mask) (dap_run place told mask) s m) (sym left) h)

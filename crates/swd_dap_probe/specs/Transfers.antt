@@ -1,5 +1,5 @@
--- What the packets of DAP_Transfer make: the requests of a list, and the reads that the probe makes besides, by the
--- table of docs/PROBES.md.
+-- What the packets of DAP_Transfer and DAP_TransferBlock make: their requests, and the reads that the probe makes
+-- besides, by the table of this crate's README.md.
 use Rattle.std.specs.Prelude.{ℕ, zero, suc, ◌≡◌, ◌/◌, ◌%◌, ◌==◌, Bool, true, false, List, [], ◌∷◌, ◌++◌, drop}
 use Rattle.std.specs.Prelude.{slice_index, if◌then◌else◌, Option, Some, None}
 use Rattle.std.specs.Prelude.{◌+◌, ◌*◌, ◌&&◌}
@@ -66,8 +66,8 @@ pub data DapStep : Type 0 where
   Masks : ℕ → DapStep
   Counts : DapStep
 
-abbrev pub dap_rdbuff : Request
-dap_rdbuff = record { ap = false; read = true; addr = RC }
+abbrev pub dap_read_buffer : Request
+dap_read_buffer = record { ap = false; read = true; addr = RC }
 
 -- a first read of the access port, whose word the read behind it returns
 abbrev pub dap_post : Request → List DapStep
@@ -90,7 +90,7 @@ dap_own_pending pending (Mask word) = pending
 -- RDBUFF is read where the word of a read of the access port is pending
 abbrev pub dap_fetch : Pending → List DapStep
 dap_fetch Nothing = []
-dap_fetch Word = Tells dap_rdbuff ∷ []
+dap_fetch Word = Tells dap_read_buffer ∷ []
 dap_fetch Check = []
 
 abbrev pub dap_fetched : Pending → Pending
@@ -121,8 +121,8 @@ dap_next_pending pending asked = dap_pending_by (dap_read_again pending asked) p
 -- behind the last request: RDBUFF is read, and told if it has the word of a read
 abbrev pub dap_finish : Pending → List DapStep
 dap_finish Nothing = []
-dap_finish Word = Tells dap_rdbuff ∷ []
-dap_finish Check = Makes dap_rdbuff 0 ∷ []
+dap_finish Word = Tells dap_read_buffer ∷ []
+dap_finish Check = Makes dap_read_buffer 0 ∷ []
 
 -- those of a list of requests
 abbrev pub dap_steps : Pending → List Asked → List DapStep
@@ -141,8 +141,8 @@ pub record DapRun : Type 0 where
 abbrev pub dap_run : ℕ → List ℕ → ℕ → DapRun
 dap_run count words mask = record { count = count; words = words; mask = mask }
 
-abbrev pub dap_made : Request → ℕ → Answer → DapMade
-dap_made request word answer = record { request = request; word = word; answer = answer }
+abbrev pub dap_made_by : Request → ℕ → Answer → DapMade
+dap_made_by request word answer = record { request = request; word = word; answer = answer }
 
 -- the bytes of the word of a read that was OK
 abbrev pub dap_told : Answer → List ℕ
@@ -168,7 +168,7 @@ DapByMatch false Same Other = Other
 -- A transaction is the first of those that were made; then this holds of the others.
 abbrev pub DapFirst : Request → ℕ → List DapMade → (Answer → List DapMade → Type 0) → Type 0
 DapFirst request word made Holds =
-    (answer : Answer) × (rest : List DapMade) × (made ≡ dap_made request word answer ∷ rest) × Holds answer rest
+    (answer : Answer) × (rest : List DapMade) × (made ≡ dap_made_by request word answer ∷ rest) × Holds answer rest
 
 -- A read is made at most so many times until its word matches where the mask has ones. Then others are. If none
 -- matches, the number is 17.
@@ -180,39 +180,39 @@ DapSeeks (suc n) request wanted run Goes made value to = DapFirst request 0 made
 
 -- Steps are performed, in order, up to the first that isn't OK. From `run` these requests are made, each with its
 -- answer, the number of the result is this, 1 if all were OK, and `to` is how far it came.
-abbrev pub DapPerforms : Settings → DapRun → List DapStep → List DapMade → ℕ → DapRun → Type 0
-DapPerforms settings run [] made value to = (made ≡ []) × (value ≡ 1) × (to ≡ run)
-DapPerforms settings run (Counts ∷ more) made value to =
-    DapPerforms settings (dap_run (suc run.count) run.words run.mask) more made value to
-DapPerforms settings run (Masks word ∷ more) made value to =
-    DapPerforms settings (dap_run run.count run.words word) more made value to
-DapPerforms settings run (Makes request word ∷ more) made value to = DapFirst request word made (λ answer rest.
-    DapByAnswer answer (λ _. DapPerforms settings run more rest value to) (DapStops answer rest value run to))
-DapPerforms settings run (Tells request ∷ more) made value to = DapFirst request 0 made (λ answer rest.
-    DapByAnswer answer (λ word. DapPerforms settings
+abbrev pub DapStepsGo : Settings → DapRun → List DapStep → List DapMade → ℕ → DapRun → Type 0
+DapStepsGo settings run [] made value to = (made ≡ []) × (value ≡ 1) × (to ≡ run)
+DapStepsGo settings run (Counts ∷ more) made value to =
+    DapStepsGo settings (dap_run (suc run.count) run.words run.mask) more made value to
+DapStepsGo settings run (Masks word ∷ more) made value to =
+    DapStepsGo settings (dap_run run.count run.words word) more made value to
+DapStepsGo settings run (Makes request word ∷ more) made value to = DapFirst request word made (λ answer rest.
+    DapByAnswer answer (λ _. DapStepsGo settings run more rest value to) (DapStops answer rest value run to))
+DapStepsGo settings run (Tells request ∷ more) made value to = DapFirst request 0 made (λ answer rest.
+    DapByAnswer answer (λ word. DapStepsGo settings
     (dap_run run.count (run.words ++ to_le_bytes w32 word) run.mask) more rest value to)
     (DapStops answer rest value run to))
-DapPerforms settings run (Seeks request wanted ∷ more) made value to = DapSeeks (suc settings.matches) request wanted run
-    (λ rest. DapPerforms settings run more rest value to) made value to
+DapStepsGo settings run (Seeks request wanted ∷ more) made value to = DapSeeks (suc settings.matches) request wanted run
+    (λ rest. DapStepsGo settings run more rest value to) made value to
 
 -- Over a line: the requests that steps make are made, and nothing else.
-pub record DapDoes {L : Type 0} (clock : SequenceClock L) (settings : Settings) (steps : List DapStep) (value : ℕ)
+pub record DapStepsMade {L : Type 0} (clock : SequenceClock L) (settings : Settings) (steps : List DapStep) (value : ℕ)
     (run to : DapRun) (s t : L) : Type 0 where
   pub made : List DapMade
   pub go : DapMadeGo clock settings made s t
-  pub performs : DapPerforms settings run steps made value to
+  pub performs : DapStepsGo settings run steps made value to
 
 -- without a request the number of the result is 0
 abbrev pub dap_transfer_value : ℕ → ℕ → ℕ
 dap_transfer_value count value = if count == 0 then 0 else value
 
--- DAP_Transfer makes the steps of its requests, and tells how many were done, how the last transaction was answered, and the
--- words.
+-- DAP_Transfer makes the steps of its requests, and tells how many were done, how the last transaction was answered,
+-- and the words.
 pub record DapTransfers {L : Type 0} (clock : SequenceClock L) (settings : Settings) (bytes told : List ℕ)
     (mask becomes : ℕ) (s t : L) : Type 0 where
   pub run : DapRun
   pub value : ℕ
-  pub does : DapDoes clock settings (dap_steps Nothing (dap_asked_list (slice_index bytes 2) (drop 3 bytes))) value
+  pub does : DapStepsMade clock settings (dap_steps Nothing (dap_asked_list (slice_index bytes 2) (drop 3 bytes))) value
       (dap_run 0 [] mask) run s t
   pub masked : becomes ≡ run.mask
   pub is : told ≡ 5 ∷ run.count ∷ dap_transfer_value (slice_index bytes 2) value ∷ run.words
@@ -221,7 +221,7 @@ pub record DapTransfers {L : Type 0} (clock : SequenceClock L) (settings : Setti
 
 -- a read with so many behind it: of the access port, the last is one of RDBUFF
 abbrev pub dap_block_read : Request → ℕ → Request
-dap_block_read request left = if request.ap && (left == 0) then dap_rdbuff else request
+dap_block_read request left = if request.ap && (left == 0) then dap_read_buffer else request
 
 -- so many reads
 abbrev pub dap_block_reads : Request → ℕ → List DapStep
@@ -230,7 +230,7 @@ dap_block_reads request (suc n) = Tells (dap_block_read request n) ∷ Counts �
 
 -- so many writes, of the words of these bytes from a place on, and a read of RDBUFF behind them
 abbrev pub dap_block_writes : Request → List ℕ → ℕ → ℕ → List DapStep
-dap_block_writes request bytes place zero = Makes dap_rdbuff 0 ∷ []
+dap_block_writes request bytes place zero = Makes dap_read_buffer 0 ∷ []
 dap_block_writes request bytes place (suc n) =
     Makes request (dap_word bytes (4 * place)) ∷ Counts ∷ dap_block_writes request bytes (place + 1) n
 
@@ -250,6 +250,6 @@ pub record DapBlock {L : Type 0} (clock : SequenceClock L) (settings : Settings)
   pub count : ℕ
   pub value : ℕ
   pub words : List ℕ
-  pub does : (mask : ℕ) → DapDoes clock settings (dap_block_steps bytes) value (dap_run 0 [] mask)
+  pub does : (mask : ℕ) → DapStepsMade clock settings (dap_block_steps bytes) value (dap_run 0 [] mask)
       (dap_run count words mask) s t
   pub is : told ≡ 6 ∷ count % 256 ∷ count / 256 ∷ dap_transfer_value (dap_block_count bytes) value ∷ words

@@ -2,7 +2,7 @@
 ghost use Rattle.std.specs.Prelude.{ℕ, ◌≡◌, ◌≤◌, ◌+◌, ◌*◌, List, ◌++◌, [], length};
 ghost use Rattle.swd_dap_probe.specs.Shapes.{dap_block_count, dap_block_shape};
 ghost use Rattle.swd_dap_probe.specs.Packets.{DapAppends};
-ghost use Rattle.swd_dap_probe.specs.Transfers.{DapDoes, dap_run, dap_post, dap_block_read, dap_block_reads};
+ghost use Rattle.swd_dap_probe.specs.Transfers.{DapStepsMade, dap_run, dap_post, dap_block_read, dap_block_reads};
 ghost use Rattle.swd_dap_probe.specs.Transfers.{dap_block_writes, dap_block_steps, dap_transfer_value, DapBlock};
 
 use crate::line::ProbeLine;
@@ -34,7 +34,7 @@ fn read_block<L: ProbeLine>(
 ) -> Done
     requires { length words.old.items + 4 * count ≤ 512 }
     ensures room { length words.new.items ≤ length words.old.items + 4 * count }
-    ensures makes { (mask : ℕ) → DapDoes L.clocks settings.now (dap_post request ++ dap_block_reads request count)
+    ensures makes { (mask : ℕ) → DapStepsMade L.clocks settings.now (dap_post request ++ dap_block_reads request count)
         result.value (dap_run 0 words.old.items mask) (dap_run result.count words.new.items mask) line.old line.new }
 {
     let value = post(line, settings, request);
@@ -62,7 +62,7 @@ fn write_block<L: ProbeLine>(
     bytes: &[u8],
 ) -> Done
     requires { 4 * count ≤ length bytes.now }
-    ensures makes { (words : List ℕ) (mask : ℕ) → DapDoes L.clocks settings.now
+    ensures makes { (words : List ℕ) (mask : ℕ) → DapStepsMade L.clocks settings.now
         (dap_block_writes request bytes.now 0 count) result.value (dap_run 0 words mask)
         (dap_run result.count words mask) line.old line.new }
 {
@@ -93,7 +93,7 @@ fn move_block<L: ProbeLine>(
     requires room { (dap_block_shape request.now).reply ≤ 512 }
     requires none { words.old.items ≡ [] }
     ensures room { 4 + length words.new.items ≤ (dap_block_shape request.now).reply }
-    ensures makes { (value : ℕ) × ((mask : ℕ) → DapDoes L.clocks settings.now (dap_block_steps request.now) value
+    ensures makes { (value : ℕ) × ((mask : ℕ) → DapStepsMade L.clocks settings.now (dap_block_steps request.now) value
         (dap_run 0 [] mask) (dap_run result.count words.new.items mask) line.old line.new)
         × (result.value ≡ dap_transfer_value (dap_block_count request.now) value) }
 {

@@ -3,9 +3,9 @@ ghost use Rattle.std.specs.Prelude.{ℕ, ◌≡◌, ◌≤◌, ◌<◌, ◌+◌,
 ghost use Rattle.swd_dap_probe.specs.Plain.{dap_word};
 ghost use Rattle.swd_dap_probe.specs.Shapes.{dap_item_shape, dap_shape_by};
 ghost use Rattle.swd_dap_probe.specs.Transfers.{dap_asked_bytes, dap_pending_bytes, dap_request, dap_asked};
-ghost use Rattle.swd_dap_probe.specs.Transfers.{dap_asked_list, DapStep, DapRun, dap_run, dap_told, DapDoes, dap_post};
+ghost use Rattle.swd_dap_probe.specs.Transfers.{dap_asked_list, DapRun, dap_run, dap_told, DapStepsMade, dap_post};
 ghost use Rattle.swd_dap_probe.specs.Transfers.{dap_own, dap_own_pending, dap_fetch, dap_fetched, dap_read_again};
-ghost use Rattle.swd_dap_probe.specs.Transfers.{dap_next, dap_next_by, dap_next_pending, dap_pending_by, dap_finish};
+ghost use Rattle.swd_dap_probe.specs.Transfers.{dap_next, dap_next_pending, dap_finish};
 ghost use Rattle.swd_dap_probe.specs.Transfers.{dap_steps, dap_transfer_value, DapTransfers};
 ghost use Rattle.swd_dap_probe.specs.Transfers.{Tells, Seeks};
 ghost use Rattle.swd_dap_probe.specs.Packets.{DapAppends};
@@ -125,7 +125,7 @@ pub(crate) fn read_word<L: ProbeLine>(
 ) -> u8
     requires { length words.old.items + 4 ≤ 512 }
     ensures room { length words.new.items ≤ length words.old.items + 4 }
-    ensures makes { (count mask : ℕ) → DapDoes L.clocks settings.now (Tells request ∷ []) result
+    ensures makes { (count mask : ℕ) → DapStepsMade L.clocks settings.now (Tells request ∷ []) result
         (dap_run count words.old.items mask) (dap_run count words.new.items mask) line.old line.new }
 {
     let answer = persist(line, settings, request, 0);
@@ -135,7 +135,7 @@ pub(crate) fn read_word<L: ProbeLine>(
 
 /// Makes a read if it is one of the access port. The read behind it returns its word. Returns how it was answered.
 pub(crate) fn post<L: ProbeLine>(line: &mut L, settings: &Settings, request: Request) -> u8
-    ensures makes { (run : DapRun) → DapDoes L.clocks settings.now (dap_post request) result run run
+    ensures makes { (run : DapRun) → DapStepsMade L.clocks settings.now (dap_post request) result run run
         line.old line.new }
 {
     if request.ap {
@@ -154,7 +154,7 @@ fn seek<L: ProbeLine>(
     request: Request,
     wanted: u32,
 ) -> u8
-    ensures makes { (count : ℕ) (words : List ℕ) → DapDoes L.clocks settings.now
+    ensures makes { (count : ℕ) (words : List ℕ) → DapStepsMade L.clocks settings.now
         (dap_post request ++ Seeks request wanted ∷ []) result (dap_run count words mask) (dap_run count words mask)
         line.old line.new }
 {
@@ -194,7 +194,7 @@ fn fetch<L: ProbeLine>(line: &mut L, settings: &Settings, run: &mut Run, words: 
     ensures room { length words.new.items ≤ length words.old.items + dap_pending_bytes run.old.pending }
     ensures pending { run.new.pending ≡ dap_fetched run.old.pending }
     ensures mask { run.new.mask ≡ run.old.mask }
-    ensures makes { (count mask : ℕ) → DapDoes L.clocks settings.now (dap_fetch run.old.pending) result
+    ensures makes { (count mask : ℕ) → DapStepsMade L.clocks settings.now (dap_fetch run.old.pending) result
         (dap_run count words.old.items mask) (dap_run count words.new.items mask) line.old line.new }
 {
     match run.pending {
@@ -219,7 +219,7 @@ fn perform<L: ProbeLine>(
     ensures room { length words.new.items + dap_pending_bytes run.new.pending
         ≤ length words.old.items + dap_asked_bytes asked }
     ensures pending { result ≡ 1 → run.new.pending ≡ dap_own_pending run.old.pending asked }
-    ensures makes { (count : ℕ) → DapDoes L.clocks settings.now (dap_own asked) result
+    ensures makes { (count : ℕ) → DapStepsMade L.clocks settings.now (dap_own asked) result
         (dap_run count words.old.items run.old.mask) (dap_run count words.new.items run.new.mask) line.old line.new }
 {
     match asked {
@@ -271,7 +271,7 @@ fn fetch_and_perform<L: ProbeLine>(
     ensures room { length words.new.items + dap_pending_bytes run.new.pending
         ≤ length words.old.items + dap_pending_bytes run.old.pending + dap_asked_bytes asked }
     ensures pending { result ≡ 1 → run.new.pending ≡ dap_own_pending (dap_fetched run.old.pending) asked }
-    ensures makes { (count : ℕ) → DapDoes L.clocks settings.now (dap_fetch run.old.pending ++ dap_own asked) result
+    ensures makes { (count : ℕ) → DapStepsMade L.clocks settings.now (dap_fetch run.old.pending ++ dap_own asked) result
         (dap_run count words.old.items run.old.mask) (dap_run count words.new.items run.new.mask) line.old line.new }
 {
     let value = fetch(line, settings, run, words);
@@ -294,7 +294,7 @@ fn next<L: ProbeLine>(
     ensures room { length words.new.items + dap_pending_bytes run.new.pending
         ≤ length words.old.items + dap_pending_bytes run.old.pending + dap_asked_bytes asked }
     ensures pending { result ≡ 1 → run.new.pending ≡ dap_next_pending run.old.pending asked }
-    ensures makes { (count : ℕ) → DapDoes L.clocks settings.now (dap_next run.old.pending asked) result
+    ensures makes { (count : ℕ) → DapStepsMade L.clocks settings.now (dap_next run.old.pending asked) result
         (dap_run count words.old.items run.old.mask) (dap_run count words.new.items run.new.mask) line.old line.new }
 {
     match read_again(run.pending, asked) {
@@ -312,7 +312,7 @@ fn finish<L: ProbeLine>(
 ) -> u8
     requires { length words.old.items + dap_pending_bytes pending ≤ 512 }
     ensures room { length words.new.items ≤ length words.old.items + dap_pending_bytes pending }
-    ensures makes { (count mask : ℕ) → DapDoes L.clocks settings.now (dap_finish pending) result
+    ensures makes { (count mask : ℕ) → DapStepsMade L.clocks settings.now (dap_finish pending) result
         (dap_run count words.old.items mask) (dap_run count words.new.items mask) line.old line.new }
 {
     match pending {
@@ -338,7 +338,7 @@ fn perform_all<L: ProbeLine>(
     ensures room { 3 + length words.new.items
         ≤ (dap_shape_by Command.Transfer request.now).reply }
     ensures count { result.count < 256 }
-    ensures makes { DapDoes L.clocks settings.now
+    ensures makes { DapStepsMade L.clocks settings.now
         (dap_steps Pending.Nothing (dap_asked_list (slice_index request.now 2) (drop 3 request.now))) result.value
         (dap_run 0 [] mask.old) (dap_run result.count words.new.items mask.new) line.old line.new }
 {
@@ -380,7 +380,7 @@ fn perform_list<L: ProbeLine>(
     ensures room { 3 + length words.new.items
         ≤ (dap_shape_by Command.Transfer request.now).reply }
     ensures count { result.count < 256 }
-    ensures makes { (value : ℕ) × DapDoes L.clocks settings.now
+    ensures makes { (value : ℕ) × DapStepsMade L.clocks settings.now
         (dap_steps Pending.Nothing (dap_asked_list (slice_index request.now 2) (drop 3 request.now))) value
         (dap_run 0 [] mask.old) (dap_run result.count words.new.items mask.new) line.old line.new
         × (result.value ≡ dap_transfer_value (slice_index request.now 2) value) }

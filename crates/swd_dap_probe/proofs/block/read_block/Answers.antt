@@ -1,5 +1,5 @@
 use Rattle.std.proofs.Common.{◌≡◌, ◌+◌, ◌-◌, ◌∙◌, ◌++◌, [], ◌∷◌, suc, ap, subst, arith}
-use Rattle.swd_dap_probe.specs.Transfers.{DapDoes, dap_block_read, dap_block_reads, dap_post, dap_run, Tells}
+use Rattle.swd_dap_probe.specs.Transfers.{DapStepsMade, dap_block_read, dap_block_reads, dap_post, dap_run, Tells}
 use Rattle.swd_dap_probe.proofs.StepLemmas.{StepsLead, does_then, does_stop, counts_next, counts_stop}
 use Rattle.swd_dap_probe.proofs.block.read_block.Goals as goal
 
@@ -20,9 +20,11 @@ loop-place-init g c = record {
       let settings = a.settings.now in
       let run = dap_run 0 a.words.now.items mask in
       let all : a.count - 0 ≡ a.count = omega arith in
-      does_then clock settings (dap_post a.request) (dap_block_reads a.request a.count) c.post-value.result value run run
+      does_then clock settings (dap_post a.request) (dap_block_reads a.request a.count) c.post-value.result value run
+      run
       to a.line.now c.post-value.new.line t (omega (arith, c.if-value-ne-OK.false)) (c.post-value.ensures.makes run)
-      (subst (λ n. DapDoes clock settings (dap_block_reads a.request n) value run to c.post-value.new.line t) all k);
+      (subst (λ n. DapStepsMade clock settings (dap_block_reads a.request n) value run to c.post-value.new.line t) all
+      k);
 }
 
 pub returns-then-value-ne-OK-2-clause-makes : goal.returns-then-value-ne-OK-2-clause-makes
@@ -41,7 +43,7 @@ returns-then-value-ne-OK-2-clause-makes g c = λ mask.
     let to = dap_run l.place next.new.words.items mask in
     counts_stop clock settings steps from (Tells (dap_block_read a.request n) ∷ []) (dap_block_reads a.request n)
     next.result run to a.line.now l.line next.new.line (λ e. absurd (omega (arith, e, c.if-value-ne-OK-2.true)))
-    (subst (λ r. DapDoes clock settings (Tells r ∷ []) next.result run to l.line next.new.line)
+    (subst (λ r. DapStepsMade clock settings (Tells r ∷ []) next.result run to l.line next.new.line)
     (c.read_at.ensures ∙ ap (dap_block_read a.request) same) (next.ensures.makes l.place mask))
     (subst (λ k. StepsLead clock settings steps from (dap_block_reads a.request k) run a.line.now l.line) left
     (l.invariant.makes mask))
@@ -65,7 +67,7 @@ loop-place-preserved g c = record {
       counts_next clock settings steps from (Tells (dap_block_read a.request n) ∷ []) (dap_block_reads a.request n)
       next.result l.place l.words.items next.new.words.items mask mask a.line.now l.line next.new.line
       (omega (arith, c.if-value-ne-OK-2.false))
-      (subst (λ r. DapDoes clock settings (Tells r ∷ []) next.result run to l.line next.new.line)
+      (subst (λ r. DapStepsMade clock settings (Tells r ∷ []) next.result run to l.line next.new.line)
       (c.read_at.ensures ∙ ap (dap_block_read a.request) same) (next.ensures.makes l.place mask))
       (subst (λ k. StepsLead clock settings steps from (dap_block_reads a.request k) run a.line.now l.line) left
       (l.invariant.makes mask));

@@ -1,5 +1,5 @@
 use Rattle.std.proofs.Common.{sym, subst}
-use Rattle.swd_dap_probe.specs.Transfers.{DapDoes, dap_finish, dap_rdbuff, dap_run}
+use Rattle.swd_dap_probe.specs.Transfers.{DapStepsMade, dap_finish, dap_read_buffer, dap_run}
 use Rattle.swd_dap_probe.proofs.StepLemmas.{does_make}
 use Rattle.swd_dap_probe.proofs.transfers.finish.Goals as goal
 
@@ -8,7 +8,7 @@ returns-in-Check-clause-makes g c = λ count mask.
     let clock = g.L.ProbeLine.clocks in
     let settings = c.args.settings.now in
     let run = dap_run count c.args.words.now.items mask in
-    subst (λ p. DapDoes clock settings (dap_finish p) c.value.result run run c.args.line.now c.persist.new.line)
+    subst (λ p. DapStepsMade clock settings (dap_finish p) c.value.result run run c.args.line.now c.persist.new.line)
     (sym c.in-Check.is)
-    (does_make clock settings dap_rdbuff 0 c.persist.result c.value.result run c.args.line.now c.persist.new.line
+    (does_make clock settings dap_read_buffer 0 c.persist.result c.value.result run c.args.line.now c.persist.new.line
     c.value.ensures c.persist.ensures)

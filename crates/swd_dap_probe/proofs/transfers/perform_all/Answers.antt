@@ -2,7 +2,7 @@ use Rattle.std.proofs.Common.{◌≡◌, ◌≤◌, ◌+◌, ◌∙◌, [], leng
 use Rattle.swd_dap_probe.specs.declared.shape.Items.TheVariants.{Transfers}
 use Rattle.swd_dap_probe.specs.declared.transfers.Pending.TheVariants.{Nothing}
 use Rattle.swd_dap_probe.specs.Shapes.{dap_item_shape, dap_most}
-use Rattle.swd_dap_probe.specs.Transfers.{dap_pending_bytes, dap_steps, dap_asked_list, dap_run, DapDoes}
+use Rattle.swd_dap_probe.specs.Transfers.{dap_pending_bytes, dap_steps, dap_asked_list, dap_run, DapStepsMade}
 use Rattle.swd_dap_probe.proofs.ItemLemmas.{items_room_next}
 use Rattle.swd_dap_probe.proofs.StepLemmas.{transfers_next, transfers_stop, transfers_last}
 use Rattle.swd_dap_probe.proofs.transfers.perform_all.Goals as goal
@@ -42,11 +42,12 @@ returns-then-value-ne-OK-clause-makes g c =
     let steps = dap_steps Nothing (dap_asked_list count (drop 3 c.args.request.now)) in
     let from = dap_run 0 [] c.args.mask.now in
     let next = c.next-value in
-    subst (λ x. DapDoes clock settings steps next.result from
+    subst (λ x. DapStepsMade clock settings steps next.result from
     (dap_run x next.new.words.items next.new.run.mask) c.args.line.now next.new.line) (sym c.from.ensures)
     (transfers_stop clock settings steps from (dap_run l.place l.words.items l.run.mask)
     (dap_run l.place next.new.words.items next.new.run.mask) l.run.pending c.asked_of.result count l.place l.rest.now
-    next.result c.args.line.now l.line next.new.line c.loop-place-test.true c.asked_of.ensures.is (λ e. absurd (omega (arith, e, c.if-value-ne-OK.true)))
+    next.result c.args.line.now l.line next.new.line c.loop-place-test.true c.asked_of.ensures.is
+    (λ e. absurd (omega (arith, e, c.if-value-ne-OK.true)))
     (next.ensures.makes l.place) l.invariant.makes)
 
 pub returns-clause-makes : goal.returns-clause-makes
@@ -60,9 +61,9 @@ returns-clause-makes g c =
     let words = c.finish.new.words.items in
     let done : l.place ≡ c.from-2.result
     = omega (arith, c.from-2.ensures, l.auto.place-end, c.loop-place-test.false) in
-    subst (λ x. DapDoes clock settings steps c.finish.result from (dap_run x words l.mask) c.args.line.now
+    subst (λ x. DapStepsMade clock settings steps c.finish.result from (dap_run x words l.mask) c.args.line.now
     c.finish.new.line) done
-    (subst (λ x. DapDoes clock settings steps c.finish.result from (dap_run l.place words x) c.args.line.now
+    (subst (λ x. DapStepsMade clock settings steps c.finish.result from (dap_run l.place words x) c.args.line.now
     c.finish.new.line) (sym l.invariant.masked)
     (transfers_last clock settings steps from l.run.pending count l.place l.rest.now l.words.items words l.run.mask
     c.finish.result c.args.line.now l.line c.finish.new.line (omega (arith, c.loop-place-test.false))

@@ -1,6 +1,6 @@
 use Rattle.std.proofs.Common.{◌≡◌, get_or, drop, [], refl, sym, subst, arith}
 use Rattle.swd_dap_probe.specs.declared.transfers.Pending.TheVariants.{Nothing}
-use Rattle.swd_dap_probe.specs.Transfers.{DapDoes, dap_asked_list, dap_run, dap_steps, dap_transfer_value}
+use Rattle.swd_dap_probe.specs.Transfers.{DapStepsMade, dap_asked_list, dap_run, dap_steps, dap_transfer_value}
 use Rattle.swd_dap_probe.proofs.StepLemmas.{does_none, transfer_value}
 use Rattle.swd_dap_probe.proofs.transfers.perform_list.Goals as goal
 
@@ -14,9 +14,11 @@ returns-then-request-eq0-clause-makes g c =
     let zero : get_or bytes 2 0 ≡ 0 = omega (arith, c.if-request-eq0.true) in
     let from = dap_run 0 [] mask in (
       1,
-      subst (λ w. DapDoes clock settings (dap_steps Nothing (dap_asked_list (get_or bytes 2 0) (drop 3 bytes))) 1 from
+      subst (λ w. DapStepsMade clock settings (dap_steps Nothing (dap_asked_list (get_or bytes 2 0) (drop 3 bytes))) 1
+          from
           (dap_run 0 w mask) line line) (sym c.requires.none)
-          (subst (λ n. DapDoes clock settings (dap_steps Nothing (dap_asked_list n (drop 3 bytes))) 1 from from line
+          (subst (λ n. DapStepsMade clock settings (dap_steps Nothing (dap_asked_list n (drop 3 bytes))) 1 from from
+          line
           line) (sym zero) (does_none clock settings from line)),
       subst (λ n. 0 ≡ dap_transfer_value n 1) (sym zero) refl,
     )
