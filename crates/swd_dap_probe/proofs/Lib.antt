@@ -3,4 +3,5 @@ pub mod ItemLemmas
 pub mod MotionLemmas
 pub mod ReplyLemmas
 pub mod SequenceLemmas
+pub mod StepLemmas
 pub mod TransactionLemmas

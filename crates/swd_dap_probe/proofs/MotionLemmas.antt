@@ -102,8 +102,11 @@ module _ {L : Type 0} (clock : SequenceClock L) (resets : Bool → L → L → T
   does_move Connect bytes told s t h = stays_at s.line t.line (ap processor_line h.after)
   does_move Disconnect bytes told s t h = stays_at s.line t.line (ap processor_line h.after)
   does_move TransferConfigure bytes told s t h = stays_at s.line t.line (ap processor_line h.after)
-  does_move Transfer bytes told s t h = made_moves s.settings h.makes.made s.line t.line h.makes.go
-  does_move TransferBlock bytes told s t h = made_moves s.settings h.makes.made s.line t.line h.makes.go
+  does_move Transfer bytes told s t h =
+      made_moves s.settings h.transfers.does.made s.line t.line h.transfers.does.go
+  does_move TransferBlock bytes told s t h =
+      let does = h.block.does 0 in
+      made_moves s.settings does.made s.line t.line does.go
   does_move TransferAbort bytes told s t h = stays_at s.line t.line (ap processor_line h.after)
   does_move WriteAbort bytes told s t h = transaction_moves s.settings dap_abort (dap_word bytes 2) h.answer
       s.line t.line h.makes

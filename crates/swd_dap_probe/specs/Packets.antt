@@ -6,11 +6,12 @@ use Rattle.swd_dap_probe.specs.declared.command.Command.{Command}
 use Rattle.swd_dap_probe.specs.declared.command.Command.TheVariants.{Transfer, TransferBlock, WriteAbort, Pins}
 use Rattle.swd_dap_probe.specs.declared.command.Command.TheVariants.{DriveSequence, WireSequence, Execute}
 use Rattle.swd_dap_probe.specs.declared.processor.Processor.{Processor}
-use Rattle.swd_dap_probe.specs.Commands.{dap_command_of, dap_command_number}
+use Rattle.swd_dap_probe.specs.Commands.{dap_command_of}
 use Rattle.swd_dap_probe.specs.Shapes.{dap_drive_clocks, dap_command_shape, IsDapTaken, IsDapRefused}
 use Rattle.swd_dap_probe.specs.Sequences.{dap_bits, dap_sequences, DapSequencesGo}
 use Rattle.swd_dap_probe.specs.Plain.{dap_plain_reply, dap_settings_after, dap_settings_before, dap_word}
-use Rattle.swd_dap_probe.specs.Transactions.{ProbeMakes, DapTransaction, dap_abort}
+use Rattle.swd_dap_probe.specs.Transactions.{DapTransaction, dap_abort}
+use Rattle.swd_dap_probe.specs.Transfers.{DapTransfers, DapBlock}
 use Rattle.swd_dap_probe.specs.declared.transaction.Answer.{Answer}
 
 -- the most bytes of a packet
@@ -26,10 +27,6 @@ pub record DapAppends (Holds : List ℕ → Type 0) (most : ℕ) (before after :
   pub is : after ≡ before ++ told
   pub short : length told ≤ most
   pub holds : Holds told
-
--- a reply to a command with this number
-abbrev pub IsDapReplyOf : ℕ → List ℕ → Type 0
-IsDapReplyOf number told = (behind : List ℕ) × (told ≡ number ∷ behind)
 
 -- COMMANDS
 
@@ -49,13 +46,17 @@ pub record DapSequencesMade {L : Type 0} (clock : SequenceClock L) (bytes told :
   pub after : t ≡ record s { line = t.line }
   pub is : told ≡ 0x1d ∷ 0 ∷ levels
 
--- DAP_Transfer and DAP_TransferBlock: requests are made, and nothing else
-pub record DapTransacts {L : Type 0} (clock : SequenceClock L) (command : Command) (told : List ℕ) (s t : Processor L) :
+-- DAP_Transfer: its requests are made, and nothing else
+pub record DapTransfersMade {L : Type 0} (clock : SequenceClock L) (bytes told : List ℕ) (s t : Processor L) :
     Type 0 where
-  pub makes : ProbeMakes clock s.settings s.line t.line
+  pub transfers : DapTransfers clock s.settings bytes told s.mask t.mask s.line t.line
   pub after : t ≡ record s { line = t.line; mask = t.mask }
-  pub behind : List ℕ
-  pub is : told ≡ dap_command_number command ∷ behind
+
+-- DAP_TransferBlock: so are those of its block
+pub record DapBlockMade {L : Type 0} (clock : SequenceClock L) (bytes told : List ℕ) (s t : Processor L) :
+    Type 0 where
+  pub block : DapBlock clock s.settings bytes told s.line t.line
+  pub after : t ≡ record s { line = t.line }
 
 -- DAP_WriteABORT: one transaction, a write of the word behind the first two bytes
 pub record DapAborts {L : Type 0} (clock : SequenceClock L) (bytes told : List ℕ) (s t : Processor L) : Type 0 where
@@ -84,8 +85,8 @@ abbrev pub ProbeDoes : {L : Type 0} → SequenceClock L → (Bool → L → L �
     → Processor L → Processor L → Type 0
 ProbeDoes clock resets DriveSequence bytes told s t = DapDrives clock bytes told s t
 ProbeDoes clock resets WireSequence bytes told s t = DapSequencesMade clock bytes told s t
-ProbeDoes clock resets Transfer bytes told s t = DapTransacts clock Transfer told s t
-ProbeDoes clock resets TransferBlock bytes told s t = DapTransacts clock TransferBlock told s t
+ProbeDoes clock resets Transfer bytes told s t = DapTransfersMade clock bytes told s t
+ProbeDoes clock resets TransferBlock bytes told s t = DapBlockMade clock bytes told s t
 ProbeDoes clock resets WriteAbort bytes told s t = DapAborts clock bytes told s t
 ProbeDoes clock resets Pins bytes told s t = DapSetsPins resets bytes told s t
 ProbeDoes clock resets command bytes told s t = DapSets command bytes told s t

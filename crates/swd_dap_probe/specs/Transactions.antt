@@ -112,8 +112,3 @@ abbrev pub DapMadeGo : {L : Type 0} → SequenceClock L → Settings → List Da
 DapMadeGo clock settings [] s t = t ≡ s
 DapMadeGo {L} clock settings (made ∷ more) s t = (m : L)
     × DapPersists clock settings made.request made.word made.answer s m × DapMadeGo clock settings more m t
-
--- some requests, and nothing else
-pub record ProbeMakes {L : Type 0} (clock : SequenceClock L) (settings : Settings) (s t : L) : Type 0 where
-  pub made : List DapMade
-  pub go : DapMadeGo clock settings made s t

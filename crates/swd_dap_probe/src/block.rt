@@ -1,8 +1,9 @@
 //! `DAP_TransferBlock`: many transactions of one request.
-ghost use Rattle.std.specs.Prelude.{◌≤◌, ◌<◌, ◌+◌, ◌*◌, length};
-ghost use Rattle.swd_dap_probe.specs.Shapes.{dap_block_shape};
-ghost use Rattle.swd_dap_probe.specs.Packets.{DapAppends, IsDapReplyOf};
-ghost use Rattle.swd_dap_probe.specs.Transactions.{ProbeMakes};
+ghost use Rattle.std.specs.Prelude.{ℕ, ◌≡◌, ◌≤◌, ◌+◌, ◌*◌, List, ◌++◌, [], length};
+ghost use Rattle.swd_dap_probe.specs.Shapes.{dap_block_count, dap_block_shape};
+ghost use Rattle.swd_dap_probe.specs.Packets.{DapAppends};
+ghost use Rattle.swd_dap_probe.specs.Transfers.{DapStepsMade, dap_run, dap_post, dap_block_read, dap_block_reads};
+ghost use Rattle.swd_dap_probe.specs.Transfers.{dap_block_writes, dap_block_steps, dap_transfer_value, DapBlock};
 
 use crate::line::ProbeLine;
 use crate::reply::{Reply, put};
@@ -12,11 +13,11 @@ use crate::transaction::{OK, RDBUFF, persist};
 use crate::transfers::{Done, post, read_word, request_of, word_at};
 use swd_bits::Request;
 
-// Returns the request of a read. Of the access port, the last is a read of RDBUFF.
-fn read_at(request: Request, place: u16, count: u16) -> Request
-    requires { place < count }
+// Returns the request of a read with so many behind it. Of the access port, the last is a read of RDBUFF.
+fn read_at(request: Request, left: u16) -> Request
+    ensures { result ≡ dap_block_read request left }
 {
-    if request.ap && place + 1 == count {
+    if request.ap && left == 0 {
         RDBUFF
     } else {
         request
@@ -24,7 +25,6 @@ fn read_at(request: Request, place: u16, count: u16) -> Request
 }
 
 // Reads so many words, at least one.
-#[tactic(auto, using(crate::proofs::TransactionLemmas::makes_none, crate::proofs::TransactionLemmas::makes_then))]
 fn read_block<L: ProbeLine>(
     line: &mut L,
     settings: &Settings,
@@ -34,15 +34,15 @@ fn read_block<L: ProbeLine>(
 ) -> Done
     requires { length words.old.items + 4 * count ≤ 512 }
     ensures room { length words.new.items ≤ length words.old.items + 4 * count }
-    ensures count { result.count ≤ count }
-    ensures makes { ProbeMakes L.clocks settings.now line.old line.new }
+    ensures makes { (mask : ℕ) → DapStepsMade L.clocks settings.now (dap_post request ++ dap_block_reads request count)
+        result.value (dap_run 0 words.old.items mask) (dap_run result.count words.new.items mask) line.old line.new }
 {
-    let mut value = post(line, settings, request);
+    let value = post(line, settings, request);
     if value != OK {
         return Done { count: 0, value };
     }
     for place in 0..count {
-        value = read_word(line, settings, read_at(request, place, count), words);
+        let value = read_word(line, settings, read_at(request, count - place - 1), words);
         if value != OK {
             return Done {
                 count: place,
@@ -50,11 +50,10 @@ fn read_block<L: ProbeLine>(
             };
         }
     }
-    Done { count, value }
+    Done { count, value: OK }
 }
 
 // Writes so many words, at least one, and reads RDBUFF behind them.
-#[tactic(auto, using(crate::proofs::TransactionLemmas::makes_none, crate::proofs::TransactionLemmas::makes_then))]
 fn write_block<L: ProbeLine>(
     line: &mut L,
     settings: &Settings,
@@ -63,8 +62,9 @@ fn write_block<L: ProbeLine>(
     bytes: &[u8],
 ) -> Done
     requires { 4 * count ≤ length bytes.now }
-    ensures count { result.count ≤ count }
-    ensures makes { ProbeMakes L.clocks settings.now line.old line.new }
+    ensures makes { (words : List ℕ) (mask : ℕ) → DapStepsMade L.clocks settings.now
+        (dap_block_writes request bytes.now 0 count) result.value (dap_run 0 words mask)
+        (dap_run result.count words mask) line.old line.new }
 {
     for place in 0..count {
         let word = word_at(bytes, 4 * usize::from(place));
@@ -82,8 +82,33 @@ fn write_block<L: ProbeLine>(
     }
 }
 
+// Makes the transactions of a block, if it has any.
+fn move_block<L: ProbeLine>(
+    line: &mut L,
+    settings: &Settings,
+    request: &[u8],
+    words: &mut Reply,
+) -> Done
+    requires whole { (dap_block_shape request.now).request ≤ length request.now }
+    requires room { (dap_block_shape request.now).reply ≤ 512 }
+    requires none { words.old.items ≡ [] }
+    ensures room { 4 + length words.new.items ≤ (dap_block_shape request.now).reply }
+    ensures makes { (value : ℕ) × ((mask : ℕ) → DapStepsMade L.clocks settings.now (dap_block_steps request.now) value
+        (dap_run 0 [] mask) (dap_run result.count words.new.items mask) line.old line.new)
+        × (result.value ≡ dap_transfer_value (dap_block_count request.now) value) }
+{
+    let count = block_count(request);
+    let asked = request_of(request[4]);
+    if count == 0 {
+        Done { count, value: 0 }
+    } else if asked.read {
+        read_block(line, settings, asked, count, words)
+    } else {
+        write_block(line, settings, asked, count, &request[5..])
+    }
+}
+
 /// Performs `DAP_TransferBlock`.
-#[tactic(auto, using(crate::proofs::TransactionLemmas::makes_none))]
 pub(crate) fn transfer_block<L: ProbeLine>(
     line: &mut L,
     settings: &Settings,
@@ -92,20 +117,19 @@ pub(crate) fn transfer_block<L: ProbeLine>(
 )
     requires whole { (dap_block_shape request.now).request ≤ length request.now }
     requires room { length reply.old.items + (dap_block_shape request.now).reply ≤ 512 }
-    ensures told { DapAppends (IsDapReplyOf 6) (dap_block_shape request.now).reply reply.old.items reply.new.items }
-    ensures makes { ProbeMakes L.clocks settings.now line.old line.new }
+    ensures { DapAppends (λ told. DapBlock L.clocks settings.now request.now told line.old line.new)
+        (dap_block_shape request.now).reply reply.old.items reply.new.items }
 {
     let mut words = Reply::new();
-    let count = block_count(request);
-    let asked = request_of(request[4]);
-    let done = if count == 0 {
-        Done { count, value: 0 }
-    } else if asked.read {
-        read_block(line, settings, asked, count, &mut words)
-    } else {
-        write_block(line, settings, asked, count, &request[5..])
-    };
-    let [low, high] = done.count.to_le_bytes();
-    put(reply, &[0x06, low, high, done.value]);
+    let done = move_block(line, settings, request, &mut words);
+    put(
+        reply,
+        &[
+            0x06,
+            (done.count % 256) as u8,
+            (done.count / 256) as u8,
+            done.value,
+        ],
+    );
     put(reply, words.as_slice());
 }

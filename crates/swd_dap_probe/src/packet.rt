@@ -3,8 +3,8 @@ ghost use Rattle.std.specs.Prelude.{◌≡◌, ◌≤◌, ◌+◌, [], length, s
 ghost use Rattle.swd_dap_probe.specs.Shapes.{dap_shape_by, dap_fixed_shape, dap_command_shape, dap_packet_shape};
 ghost use Rattle.swd_dap_probe.specs.Shapes.{dap_packet_shape_by, dap_long, dap_most};
 ghost use Rattle.swd_dap_probe.specs.Packets.{DapAppends, ProbeDoes, DapCommandGoes, DapCommandsGo, DapPacketGoes};
-ghost use Rattle.swd_dap_probe.specs.Packets.{DapTransacts, DapAborts, DapDrives, DapSequencesMade, DapSetsPins};
-ghost use Rattle.swd_dap_probe.specs.Packets.{DapSets};
+ghost use Rattle.swd_dap_probe.specs.Packets.{DapTransfersMade, DapBlockMade, DapAborts, DapDrives};
+ghost use Rattle.swd_dap_probe.specs.Packets.{DapSequencesMade, DapSetsPins, DapSets};
 ghost use Rattle.swd_dap_probe.specs.Plain.{dap_info_reply, dap_settings_after};
 ghost use Rattle.swd_dap_probe.specs.Commands.{dap_command_of};
 ghost use Rattle.swd_dap_probe.specs.declared.command.Command.{Command};
@@ -98,7 +98,7 @@ fn command<L: ProbeLine>(
 fn transfers<L: ProbeLine>(probe: &mut Processor<L>, bytes: &[u8], reply: &mut Reply)
     requires whole { (dap_shape_by Command.Transfer bytes.now).request ≤ length bytes.now }
     requires room { length reply.old.items + (dap_shape_by Command.Transfer bytes.now).reply ≤ 512 }
-    ensures { DapAppends (λ told. DapTransacts L.clocks Command.Transfer told probe.old probe.new)
+    ensures { DapAppends (λ told. DapTransfersMade L.clocks bytes.now told probe.old probe.new)
         (dap_shape_by Command.Transfer bytes.now).reply reply.old.items reply.new.items }
 {
     transfer(
@@ -114,7 +114,7 @@ fn transfers<L: ProbeLine>(probe: &mut Processor<L>, bytes: &[u8], reply: &mut R
 fn block<L: ProbeLine>(probe: &mut Processor<L>, bytes: &[u8], reply: &mut Reply)
     requires whole { (dap_shape_by Command.TransferBlock bytes.now).request ≤ length bytes.now }
     requires room { length reply.old.items + (dap_shape_by Command.TransferBlock bytes.now).reply ≤ 512 }
-    ensures { DapAppends (λ told. DapTransacts L.clocks Command.TransferBlock told probe.old probe.new)
+    ensures { DapAppends (λ told. DapBlockMade L.clocks bytes.now told probe.old probe.new)
         (dap_shape_by Command.TransferBlock bytes.now).reply reply.old.items reply.new.items }
 {
     transfer_block(&mut probe.line, &probe.settings, bytes, reply);

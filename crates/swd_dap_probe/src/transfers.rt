@@ -1,10 +1,15 @@
 //! `DAP_Transfer`: a list of transactions.
-ghost use Rattle.std.specs.Prelude.{◌≡◌, ◌≤◌, ◌<◌, ◌+◌, ◌*◌, [], length, slice_index, IfSome};
+ghost use Rattle.std.specs.Prelude.{ℕ, ◌≡◌, ◌≤◌, ◌<◌, ◌+◌, ◌*◌, List, ◌++◌, [], ◌∷◌, drop, length, slice_index, IfSome};
 ghost use Rattle.swd_dap_probe.specs.Plain.{dap_word};
-ghost use Rattle.swd_dap_probe.specs.Shapes.{dap_item_shape, dap_shape_by, dap_reads};
-ghost use Rattle.swd_dap_probe.specs.Transactions.{ProbeMakes};
-ghost use Rattle.swd_dap_probe.specs.Transfers.{dap_asked_bytes, dap_pending_bytes};
-ghost use Rattle.swd_dap_probe.specs.Packets.{DapAppends, IsDapReplyOf};
+ghost use Rattle.swd_dap_probe.specs.Shapes.{dap_item_shape, dap_shape_by};
+ghost use Rattle.swd_dap_probe.specs.Transfers.{dap_asked_bytes, dap_pending_bytes, dap_request, dap_asked};
+ghost use Rattle.swd_dap_probe.specs.Transfers.{dap_asked_list, DapRun, dap_run, dap_told, DapStepsMade, dap_post};
+ghost use Rattle.swd_dap_probe.specs.Transfers.{dap_own, dap_own_pending, dap_fetch, dap_fetched, dap_read_again};
+ghost use Rattle.swd_dap_probe.specs.Transfers.{dap_next, dap_next_pending, dap_finish};
+ghost use Rattle.swd_dap_probe.specs.Transfers.{dap_steps, dap_transfer_value, DapTransfers};
+ghost use Rattle.swd_dap_probe.specs.Transfers.{Tells, Seeks};
+ghost use Rattle.swd_dap_probe.specs.Packets.{DapAppends};
+ghost use Rattle.swd_dap_probe.specs.declared.transfers.Pending.{Pending};
 ghost use Rattle.swd_dap_probe.specs.declared.command.Command.{Command};
 ghost use Rattle.swd_dap_probe.specs.declared.shape.Items.{Items};
 
@@ -52,7 +57,7 @@ pub(crate) struct Done {
 
 /// Returns the register of a transaction's code: APnDP, RnW, A[2], A[3], the first in bit 0.
 pub(crate) fn request_of(code: u8) -> Request
-    ensures { result.read ≡ dap_reads code }
+    ensures { result ≡ dap_request code }
 {
     Request {
         ap: code % 2 == 1,
@@ -82,7 +87,8 @@ pub(crate) fn word_at(bytes: &[u8], place: usize) -> u32
 // Returns the request at the head of these bytes.
 fn asked_of(bytes: &[u8]) -> Asked
     requires { (dap_item_shape Items.Transfers bytes.now).request ≤ length bytes.now }
-    ensures { dap_asked_bytes result ≡ (dap_item_shape Items.Transfers bytes.now).reply }
+    ensures is { result ≡ dap_asked bytes.now }
+    ensures bytes { dap_asked_bytes result ≡ (dap_item_shape Items.Transfers bytes.now).reply }
 {
     let code = bytes[0];
     let request = request_of(code);
@@ -99,6 +105,17 @@ fn asked_of(bytes: &[u8]) -> Asked
     }
 }
 
+// Appends the word of a read that was OK.
+fn put_told(words: &mut Reply, answer: Answer)
+    requires { length words.old.items + 4 ≤ 512 }
+    ensures told { words.new.items ≡ words.old.items ++ dap_told answer }
+    ensures room { length words.new.items ≤ length words.old.items + 4 }
+{
+    if let Answer::Okay(word) = answer {
+        put_word(words, word);
+    }
+}
+
 /// Makes a read, and appends its word if it was OK.
 pub(crate) fn read_word<L: ProbeLine>(
     line: &mut L,
@@ -108,19 +125,18 @@ pub(crate) fn read_word<L: ProbeLine>(
 ) -> u8
     requires { length words.old.items + 4 ≤ 512 }
     ensures room { length words.new.items ≤ length words.old.items + 4 }
-    ensures makes { ProbeMakes L.clocks settings.now line.old line.new }
+    ensures makes { (count mask : ℕ) → DapStepsMade L.clocks settings.now (Tells request ∷ []) result
+        (dap_run count words.old.items mask) (dap_run count words.new.items mask) line.old line.new }
 {
     let answer = persist(line, settings, request, 0);
-    if let Answer::Okay(word) = answer {
-        put_word(words, word);
-    }
+    put_told(words, answer);
     answer.value()
 }
 
 /// Makes a read if it is one of the access port. The read behind it returns its word. Returns how it was answered.
-#[tactic(auto, using(crate::proofs::TransactionLemmas::makes_none))]
 pub(crate) fn post<L: ProbeLine>(line: &mut L, settings: &Settings, request: Request) -> u8
-    ensures makes { ProbeMakes L.clocks settings.now line.old line.new }
+    ensures makes { (run : DapRun) → DapStepsMade L.clocks settings.now (dap_post request) result run run
+        line.old line.new }
 {
     if request.ap {
         persist(line, settings, request, 0).value()
@@ -131,7 +147,6 @@ pub(crate) fn post<L: ProbeLine>(line: &mut L, settings: &Settings, request: Req
 
 // Makes a read until its word matches, and one read before of the access port, whose reads return the word of the one
 // before.
-#[tactic(auto, using(crate::proofs::TransactionLemmas::makes_none, crate::proofs::TransactionLemmas::makes_then))]
 fn seek<L: ProbeLine>(
     line: &mut L,
     settings: &Settings,
@@ -139,7 +154,9 @@ fn seek<L: ProbeLine>(
     request: Request,
     wanted: u32,
 ) -> u8
-    ensures makes { ProbeMakes L.clocks settings.now line.old line.new }
+    ensures makes { (count : ℕ) (words : List ℕ) → DapStepsMade L.clocks settings.now
+        (dap_post request ++ Seeks request wanted ∷ []) result (dap_run count words mask) (dap_run count words mask)
+        line.old line.new }
 {
     let value = post(line, settings, request);
     if value != OK {
@@ -164,18 +181,21 @@ struct Run {
 
 // What is pending behind a transaction that was answered so.
 fn pending_behind(value: u8, then: Pending) -> Pending
-    ensures { dap_pending_bytes result ≤ dap_pending_bytes then }
+    ensures bytes { dap_pending_bytes result ≤ dap_pending_bytes then }
+    ensures okay { value ≡ 1 → result ≡ then }
 {
     if value == OK { then } else { Pending::Nothing }
 }
 
 // Fetches the word of a read that was made before, if there is one.
-#[tactic(auto, using(crate::proofs::TransactionLemmas::makes_none))]
 fn fetch<L: ProbeLine>(line: &mut L, settings: &Settings, run: &mut Run, words: &mut Reply) -> u8
     requires { length words.old.items + dap_pending_bytes run.old.pending ≤ 512 }
     ensures none { dap_pending_bytes run.new.pending ≡ 0 }
     ensures room { length words.new.items ≤ length words.old.items + dap_pending_bytes run.old.pending }
-    ensures makes { ProbeMakes L.clocks settings.now line.old line.new }
+    ensures pending { run.new.pending ≡ dap_fetched run.old.pending }
+    ensures mask { run.new.mask ≡ run.old.mask }
+    ensures makes { (count mask : ℕ) → DapStepsMade L.clocks settings.now (dap_fetch run.old.pending) result
+        (dap_run count words.old.items mask) (dap_run count words.new.items mask) line.old line.new }
 {
     match run.pending {
         Pending::Word => {
@@ -187,7 +207,6 @@ fn fetch<L: ProbeLine>(line: &mut L, settings: &Settings, run: &mut Run, words: 
 }
 
 // Performs a request, behind which no word is left of an earlier one.
-#[tactic(auto, using(crate::proofs::TransactionLemmas::makes_none))]
 fn perform<L: ProbeLine>(
     line: &mut L,
     settings: &Settings,
@@ -199,7 +218,9 @@ fn perform<L: ProbeLine>(
     requires room { length words.old.items + dap_asked_bytes asked ≤ 512 }
     ensures room { length words.new.items + dap_pending_bytes run.new.pending
         ≤ length words.old.items + dap_asked_bytes asked }
-    ensures makes { ProbeMakes L.clocks settings.now line.old line.new }
+    ensures pending { result ≡ 1 → run.new.pending ≡ dap_own_pending run.old.pending asked }
+    ensures makes { (count : ℕ) → DapStepsMade L.clocks settings.now (dap_own asked) result
+        (dap_run count words.old.items run.old.mask) (dap_run count words.new.items run.new.mask) line.old line.new }
 {
     match asked {
         Asked::Mask(word) => {
@@ -229,16 +250,16 @@ fn perform<L: ProbeLine>(
 
 // Returns the request of a read of the access port, if it returns the word of the one before it.
 fn read_again(pending: Pending, asked: Asked) -> Option<Request>
-    ensures { IfSome result (λ _. dap_asked_bytes asked ≡ 4) }
+    ensures is { result ≡ dap_read_again pending asked }
+    ensures bytes { IfSome result (λ _. dap_asked_bytes asked ≡ 4) }
 {
-    match asked {
-        Asked::Read(request) if request.ap && matches!(pending, Pending::Word) => Some(request),
+    match (pending, asked) {
+        (Pending::Word, Asked::Read(request)) if request.ap => Some(request),
         _ => None,
     }
 }
 
 // Fetches the word of a read that was made before, if there is one, and performs a request if that was OK.
-#[tactic(auto, using(crate::proofs::TransactionLemmas::makes_then))]
 fn fetch_and_perform<L: ProbeLine>(
     line: &mut L,
     settings: &Settings,
@@ -249,7 +270,9 @@ fn fetch_and_perform<L: ProbeLine>(
     requires { length words.old.items + dap_pending_bytes run.old.pending + dap_asked_bytes asked ≤ 512 }
     ensures room { length words.new.items + dap_pending_bytes run.new.pending
         ≤ length words.old.items + dap_pending_bytes run.old.pending + dap_asked_bytes asked }
-    ensures makes { ProbeMakes L.clocks settings.now line.old line.new }
+    ensures pending { result ≡ 1 → run.new.pending ≡ dap_own_pending (dap_fetched run.old.pending) asked }
+    ensures makes { (count : ℕ) → DapStepsMade L.clocks settings.now (dap_fetch run.old.pending ++ dap_own asked) result
+        (dap_run count words.old.items run.old.mask) (dap_run count words.new.items run.new.mask) line.old line.new }
 {
     let value = fetch(line, settings, run, words);
     if value == OK {
@@ -270,7 +293,9 @@ fn next<L: ProbeLine>(
     requires { length words.old.items + dap_pending_bytes run.old.pending + dap_asked_bytes asked ≤ 512 }
     ensures room { length words.new.items + dap_pending_bytes run.new.pending
         ≤ length words.old.items + dap_pending_bytes run.old.pending + dap_asked_bytes asked }
-    ensures makes { ProbeMakes L.clocks settings.now line.old line.new }
+    ensures pending { result ≡ 1 → run.new.pending ≡ dap_next_pending run.old.pending asked }
+    ensures makes { (count : ℕ) → DapStepsMade L.clocks settings.now (dap_next run.old.pending asked) result
+        (dap_run count words.old.items run.old.mask) (dap_run count words.new.items run.new.mask) line.old line.new }
 {
     match read_again(run.pending, asked) {
         Some(request) => read_word(line, settings, request, words),
@@ -279,7 +304,6 @@ fn next<L: ProbeLine>(
 }
 
 // Makes the read that is pending behind the last request.
-#[tactic(auto, using(crate::proofs::TransactionLemmas::makes_none))]
 fn finish<L: ProbeLine>(
     line: &mut L,
     settings: &Settings,
@@ -288,7 +312,8 @@ fn finish<L: ProbeLine>(
 ) -> u8
     requires { length words.old.items + dap_pending_bytes pending ≤ 512 }
     ensures room { length words.new.items ≤ length words.old.items + dap_pending_bytes pending }
-    ensures makes { ProbeMakes L.clocks settings.now line.old line.new }
+    ensures makes { (count mask : ℕ) → DapStepsMade L.clocks settings.now (dap_finish pending) result
+        (dap_run count words.old.items mask) (dap_run count words.new.items mask) line.old line.new }
 {
     match pending {
         Pending::Nothing => OK,
@@ -298,7 +323,6 @@ fn finish<L: ProbeLine>(
 }
 
 // Performs requests up to the first that isn't OK.
-#[tactic(auto, using(crate::proofs::TransactionLemmas::makes_none, crate::proofs::TransactionLemmas::makes_then))]
 fn perform_all<L: ProbeLine>(
     line: &mut L,
     settings: &Settings,
@@ -313,17 +337,18 @@ fn perform_all<L: ProbeLine>(
     requires none { words.old.items ≡ [] }
     ensures room { 3 + length words.new.items
         ≤ (dap_shape_by Command.Transfer request.now).reply }
-    ensures count { result.count ≤ slice_index request.now 2 }
-    ensures makes { ProbeMakes L.clocks settings.now line.old line.new }
+    ensures count { result.count < 256 }
+    ensures makes { DapStepsMade L.clocks settings.now
+        (dap_steps Pending.Nothing (dap_asked_list (slice_index request.now 2) (drop 3 request.now))) result.value
+        (dap_run 0 [] mask.old) (dap_run result.count words.new.items mask.new) line.old line.new }
 {
     let mut run = Run {
         mask: *mask,
         pending: Pending::Nothing,
     };
     let mut rest = &request[3..];
-    let mut value = 0;
     for place in 0..request[2] {
-        value = next(line, settings, &mut run, asked_of(rest), words);
+        let value = next(line, settings, &mut run, asked_of(rest), words);
         *mask = run.mask;
         if value != OK {
             return Done {
@@ -333,12 +358,37 @@ fn perform_all<L: ProbeLine>(
         }
         rest = skip(rest, item_shape(Items::Transfers, rest).request);
     }
-    if value == OK {
-        value = finish(line, settings, run.pending, words);
-    }
     Done {
         count: u16::from(request[2]),
-        value,
+        value: finish(line, settings, run.pending, words),
+    }
+}
+
+// Performs the requests of a packet, if it has any.
+fn perform_list<L: ProbeLine>(
+    line: &mut L,
+    settings: &Settings,
+    mask: &mut u32,
+    request: &[u8],
+    words: &mut Reply,
+) -> Done
+    requires whole { (dap_shape_by Command.Transfer request.now).request
+        ≤ length request.now }
+    requires room { (dap_shape_by Command.Transfer request.now).reply
+        ≤ 512 }
+    requires none { words.old.items ≡ [] }
+    ensures room { 3 + length words.new.items
+        ≤ (dap_shape_by Command.Transfer request.now).reply }
+    ensures count { result.count < 256 }
+    ensures makes { (value : ℕ) × DapStepsMade L.clocks settings.now
+        (dap_steps Pending.Nothing (dap_asked_list (slice_index request.now 2) (drop 3 request.now))) value
+        (dap_run 0 [] mask.old) (dap_run result.count words.new.items mask.new) line.old line.new
+        × (result.value ≡ dap_transfer_value (slice_index request.now 2) value) }
+{
+    if request[2] == 0 {
+        Done { count: 0, value: 0 }
+    } else {
+        perform_all(line, settings, mask, request, words)
     }
 }
 
@@ -354,13 +404,11 @@ pub(crate) fn transfer<L: ProbeLine>(
         ≤ length request.now }
     requires room { length reply.old.items
         + (dap_shape_by Command.Transfer request.now).reply ≤ 512 }
-    ensures told { DapAppends (IsDapReplyOf 5)
-        (dap_shape_by Command.Transfer request.now).reply
-        reply.old.items reply.new.items }
-    ensures makes { ProbeMakes L.clocks settings.now line.old line.new }
+    ensures { DapAppends (λ told. DapTransfers L.clocks settings.now request.now told mask.old mask.new
+        line.old line.new) (dap_shape_by Command.Transfer request.now).reply reply.old.items reply.new.items }
 {
     let mut words = Reply::new();
-    let done = perform_all(line, settings, mask, request, &mut words);
-    put(reply, &[0x05, (done.count % 256) as u8, done.value]);
+    let done = perform_list(line, settings, mask, request, &mut words);
+    put(reply, &[0x05, done.count as u8, done.value]);
     put(reply, words.as_slice());
 }

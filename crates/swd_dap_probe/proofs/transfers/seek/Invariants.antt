@@ -1,6 +1,8 @@
-use Rattle.swd_dap_probe.specs.Transactions.{ProbeMakes}
+use Rattle.std.proofs.Common.{◌+◌, ◌-◌}
+use Rattle.swd_dap_probe.proofs.StepLemmas.{SeeksLead}
 use Rattle.swd_dap_probe.proofs.transfers.seek.Given as goal
 
--- only requests were made so far
+-- the reads that are left make it whole
 abbrev pub invariant-loop-place : goal.invariant-loop-place
-invariant-loop-place g l = ProbeMakes g.L.ProbeLine.clocks l.settings l.fn.line l.line
+invariant-loop-place g l = SeeksLead g.L.ProbeLine.clocks l.settings l.request l.wanted l.mask
+    (l.settings.matches + 1 - l.place) l.fn.line l.line
