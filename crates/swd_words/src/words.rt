@@ -602,55 +602,19 @@ fn line_of(alloc: Global, matches: &ArgMatches<'_>) -> Result<CommandLine, LineF
         return Err(unknown(alloc));
     };
     match name {
-        "one" => match text_in(alloc, rest, "FILE") {
-            Ok(file) => Ok(CommandLine::One(file)),
-            Err(fault) => Err(fault),
-        },
-        "decode" => match decode_line(alloc, rest) {
-            Ok(decode) => Ok(CommandLine::Decode(decode)),
-            Err(fault) => Err(fault),
-        },
-        "draw" => match draw_line(alloc, rest) {
-            Ok(draw) => Ok(CommandLine::Draw(draw)),
-            Err(fault) => Err(fault),
-        },
-        "check" => match check_line(alloc, rest) {
-            Ok(check) => Ok(CommandLine::Check(check)),
-            Err(fault) => Err(fault),
-        },
-        "encode" => match text_in(alloc, rest, "FILE") {
-            Ok(file) => Ok(CommandLine::Encode(file)),
-            Err(fault) => Err(fault),
-        },
-        "run" => match run_line(alloc, rest) {
-            Ok(run) => Ok(CommandLine::Run(run)),
-            Err(fault) => Err(fault),
-        },
-        "target" => match target_line(alloc, rest) {
-            Ok(target) => Ok(CommandLine::Target(target)),
-            Err(fault) => Err(fault),
-        },
-        "probe" => match probe_line(alloc, rest) {
-            Ok(target) => Ok(CommandLine::Target(target)),
-            Err(fault) => Err(fault),
-        },
-        "info" => match info_line(alloc, rest) {
-            Ok(info) => Ok(CommandLine::Info(info)),
-            Err(fault) => Err(fault),
-        },
-        "core" => match core_line(alloc, rest) {
-            Ok(core) => Ok(CommandLine::Core(core)),
-            Err(fault) => Err(fault),
-        },
-        "conform" => match conform_line(alloc, rest) {
-            Ok(conform) => Ok(CommandLine::Conform(conform)),
-            Err(fault) => Err(fault),
-        },
+        "one" => Ok(CommandLine::One(text_in(alloc, rest, "FILE")?)),
+        "decode" => Ok(CommandLine::Decode(decode_line(alloc, rest)?)),
+        "draw" => Ok(CommandLine::Draw(draw_line(alloc, rest)?)),
+        "check" => Ok(CommandLine::Check(check_line(alloc, rest)?)),
+        "encode" => Ok(CommandLine::Encode(text_in(alloc, rest, "FILE")?)),
+        "run" => Ok(CommandLine::Run(run_line(alloc, rest)?)),
+        "target" => Ok(CommandLine::Target(target_line(alloc, rest)?)),
+        "probe" => Ok(CommandLine::Target(probe_line(alloc, rest)?)),
+        "info" => Ok(CommandLine::Info(info_line(alloc, rest)?)),
+        "core" => Ok(CommandLine::Core(core_line(alloc, rest)?)),
+        "conform" => Ok(CommandLine::Conform(conform_line(alloc, rest)?)),
         "probes" => Ok(CommandLine::Probes),
-        _ => match image_line(alloc, name, rest) {
-            Ok(image) => Ok(CommandLine::Image(image)),
-            Err(fault) => Err(fault),
-        },
+        _ => Ok(CommandLine::Image(image_line(alloc, name, rest)?)),
     }
 }
 
