@@ -171,15 +171,15 @@ pub record AreDecodeArguments (decode : DecodeLine) (rows : List Row) : Type 0 w
   pub overrun : (decode.overrun ≡ true) ↔ (first_of (codes "overrun") rows ≡ Some (codes "true"))
   pub one_start : decode.made ≡ true → decode.rest ≡ false
 
--- the most items of a drawing are those of the argument, at most 1,000; 200 without an argument
-abbrev pub IsItemsArgument : ℕ → Option Text → Type 0
-IsItemsArgument items None = items ≡ 200
-IsItemsArgument items (Some text) = (items ≤ 1000) × (pos items ≡ signed_digits_value 10 text)
+-- the number of an option is that of its argument, at most 1,000, and this default without an argument
+abbrev pub IsNumberArgument : ℕ → ℕ → Option Text → Type 0
+IsNumberArgument default number None = number ≡ default
+IsNumberArgument default number (Some text) = (number ≤ 1000) × (pos number ≡ signed_digits_value 10 text)
 
 -- the file that the arguments of `draw` name, if any, the most items, and the flags
 pub record AreDrawArguments (draw : DrawLine) (rows : List Row) : Type 0 where
   pub file : option_map string_bytes draw.file ≡ first_of (codes "FILE") rows
-  pub items : IsItemsArgument draw.items (first_of (codes "items") rows)
+  pub items : IsNumberArgument 200 draw.items (first_of (codes "items") rows)
   pub names : (draw.names ≡ true) ↔ (first_of (codes "names") rows ≡ Some (codes "true"))
   pub resync : (draw.resync ≡ true) ↔ (first_of (codes "resync") rows ≡ Some (codes "true"))
   pub overrun : (draw.overrun ≡ true) ↔ (first_of (codes "overrun") rows ≡ Some (codes "true"))
@@ -213,16 +213,6 @@ pub record AreCheckArguments (check : CheckLine) (rows : List Row) : Type 0 wher
   pub overrun : (check.overrun ≡ true) ↔ (first_of (codes "overrun") rows ≡ Some (codes "true"))
   pub one_start : check.made ≡ true → check.rest ≡ false
 
--- the number of tries is that of the argument, at most 1,000; 8 without an argument
-abbrev pub IsTriesArgument : ℕ → Option Text → Type 0
-IsTriesArgument tries None = tries ≡ 8
-IsTriesArgument tries (Some text) = (tries ≤ 1000) × (pos tries ≡ signed_digits_value 10 text)
-
--- and so is the number of times that a call is resumed; 0 without an argument
-abbrev pub IsResumeArgument : ℕ → Option Text → Type 0
-IsResumeArgument resumes None = resumes ≡ 0
-IsResumeArgument resumes (Some text) = (resumes ≤ 1000) × (pos resumes ≡ signed_digits_value 10 text)
-
 -- the frequency of SWCLK is that of the argument, 1 to 10 decimal digits, and not 0; 1,000,000 without an argument
 abbrev pub IsSpeedArgument : ℕ → Option Text → Type 0
 IsSpeedArgument speed None = speed ≡ 1000000
@@ -242,8 +232,8 @@ AreLeadArguments files (Some probe) rows = (files ≡ first_of (codes "probe") r
 pub record AreRunArguments (run : RunLine) (rows : List Row) : Type 0 where
   pub script : Some (string_bytes run.script) ≡ first_of (codes "SCRIPT") rows
   pub plan : option_map string_bytes run.plan ≡ first_of (codes "plan") rows
-  pub tries : IsTriesArgument run.tries (first_of (codes "tries") rows)
-  pub resumes : IsResumeArgument run.resumes (first_of (codes "resume") rows)
+  pub tries : IsNumberArgument 8 run.tries (first_of (codes "tries") rows)
+  pub resumes : IsNumberArgument 0 run.resumes (first_of (codes "resume") rows)
   pub trace : option_map string_bytes run.trace ≡ first_of (codes "trace") rows
   pub accesses : option_map string_bytes run.accesses ≡ first_of (codes "accesses") rows
   pub strict : (run.strict ≡ true) ↔ (first_of (codes "strict") rows ≡ Some (codes "true"))
@@ -271,7 +261,7 @@ IsBytesArgument count text =
 -- what leads to the remote target, and the number of tries
 pub record AreInfoArguments (info : InfoLine) (rows : List Row) : Type 0 where
   pub remote : AreLeadArguments (Some (string_bytes info.remote)) info.probe rows
-  pub tries : IsTriesArgument info.tries (first_of (codes "tries") rows)
+  pub tries : IsNumberArgument 8 info.tries (first_of (codes "tries") rows)
 
 -- what is done with an image, by the command's name, and a dump's number of bytes
 abbrev pub IsActionArgument : ImageAction → Text → List Row → Type 0
@@ -374,8 +364,8 @@ pub record AreCoreArguments (core : CoreLine) (rows : List Row) : Type 0 where
   pub action : first_of (codes "ACTION") rows ≡ Some (core_action_word core.action)
   pub halts : (core.halts ≡ true) ↔ (first_of (codes "halt") rows ≡ Some (codes "true"))
   pub script : (core.script ≡ true) ↔ (first_of (codes "script") rows ≡ Some (codes "true"))
-  pub tries : IsTriesArgument core.run.tries (first_of (codes "tries") rows)
-  pub resumes : IsResumeArgument core.run.resumes (first_of (codes "resume") rows)
+  pub tries : IsNumberArgument 8 core.run.tries (first_of (codes "tries") rows)
+  pub resumes : IsNumberArgument 0 core.run.resumes (first_of (codes "resume") rows)
   pub trace : option_map string_bytes core.run.trace ≡ first_of (codes "trace") rows
   pub remote : AreLeadArguments (option_map string_bytes core.run.remote) core.run.probe rows
   pub printed : core.script ≡ true → (first_of (codes "remote") rows ≡ None) × (first_of (codes "probe") rows ≡ None)
@@ -407,8 +397,8 @@ pub record AreImageArguments (image : ImageLine) (name : Text) (rows : List Row)
   pub action : IsActionArgument image.action name rows
   pub addr : Some image.addr ≡ option_and_then (λ text. script_hex_number text) (first_of (codes "ADDR") rows)
   pub file : Some (string_bytes image.file) ≡ first_of (codes "FILE") rows
-  pub tries : IsTriesArgument image.tries (first_of (codes "tries") rows)
-  pub resumes : IsResumeArgument image.resumes (first_of (codes "resume") rows)
+  pub tries : IsNumberArgument 8 image.tries (first_of (codes "tries") rows)
+  pub resumes : IsNumberArgument 0 image.resumes (first_of (codes "resume") rows)
   pub report : option_map string_bytes image.report ≡ first_of (codes "report") rows
   pub progress : (image.progress ≡ true) ↔ (first_of (codes "progress") rows ≡ Some (codes "true"))
   pub check : (image.check ≡ true) ↔ (first_of (codes "check") rows ≡ Some (codes "true"))

@@ -1,5 +1,5 @@
 //! The arguments of `swd check`.
-ghost use Rattle.std.specs.Prelude.{◌≡◌, ◌++◌, List, IfOk, IfSome, codes, map, unwrap_or, []};
+ghost use Rattle.std.specs.Prelude.{◌≡◌, ◌++◌, List, IfOk, codes, map, unwrap_or, []};
 ghost use Rattle.clap.specs.Words.{all_of, found_of, rows_of};
 ghost use Rattle.swd_command_line.specs.declared.command.PlainWords.{PlainWords};
 ghost use Rattle.swd_words.specs.Commands.{AreCheckArguments, ArePlainArguments, IsPlainArgument};
@@ -7,12 +7,13 @@ ghost use Rattle.swd_words.specs.Commands.{AreCheckArguments, ArePlainArguments,
 use crate::argument::{Argument, CommandRow, Form};
 use crate::decode_words::TWO_STARTS;
 use crate::fault::LineFault;
-use crate::words::{FILE, invalid, is_set, refused, text_in};
+use crate::memory_words::address_in;
+use crate::words::{FILE, is_set, refused, text_in, unfit};
 use clap::ArgMatches;
 use clap::error::ErrorKind;
 use std::alloc::Global;
 use swd_command_line::{CheckLine, PlainWords};
-use swd_script::{decimal_of, hex_of};
+use swd_script::decimal_of;
 
 const CHECK_AFTER: &str = "\
 Prints the verdict, one line:
@@ -47,8 +48,6 @@ transaction directly before skipped bits belongs to the gap, and isn't checked.
 Status: 0 fits, 1 breaks, 2 crowded, outside or an error.";
 
 const PLAIN_OPTION: &str = "--plain <BASE> <WORDS>";
-
-const PLAIN_BASE: &str = "it is not 1 to 8 hexadecimal digits of a multiple of 4";
 
 const PLAIN_WORDS: &str = "it is not a number of words, at least 1 and none past ffffffff";
 
@@ -106,28 +105,17 @@ pub(crate) const CHECK: CommandRow = CommandRow {
     ],
 };
 
-// Returns the words of plain memory of one use of `--plain`, or `None` if its values don't have their form.
-fn words_in(base: &str, words: &str) -> Option<PlainWords>
-    ensures { IfSome result (λ plain. IsPlainArgument plain base.now words.now) }
+// Returns the words of plain memory of one use of `--plain`.
+fn words_in(alloc: Global, address: &str, count: &str) -> Result<PlainWords, LineFault>
+    ensures { IfOk result (λ plain. IsPlainArgument plain address.now count.now) }
 {
-    let base = hex_of(base.as_bytes())?;
-    let words = decimal_of(words.as_bytes())?;
-    let end = u64::from(base) + 4 * u64::from(words);
-    if base % 4 == 0 && words > 0 && end <= BYTES {
-        Some(PlainWords { base, words })
-    } else {
-        None
+    let base = address_in(alloc, address, PLAIN_OPTION)?;
+    match decimal_of(count.as_bytes()) {
+        Some(words) if words > 0 && u64::from(base) + 4 * u64::from(words) <= BYTES => {
+            Ok(PlainWords { base, words })
+        }
+        _ => Err(unfit(alloc, count, PLAIN_OPTION, PLAIN_WORDS)),
     }
-}
-
-// Returns the error of these values of one use of `--plain`.
-fn unfit(alloc: Global, base: &str, words: &str) -> LineFault {
-    let (value, why) = match hex_of(base.as_bytes()) {
-        Some(addr) if addr % 4 == 0 => (words, PLAIN_WORDS),
-        _ => (base, PLAIN_BASE),
-    };
-    let kind = ErrorKind::InvalidValue;
-    invalid(alloc, kind, Some(value), PLAIN_OPTION, why)
 }
 
 // Adds the words of plain memory of these values, two for each use of `--plain`.
@@ -138,15 +126,13 @@ fn add_plain(alloc: Global, values: &[&str], plain: &mut Vec<PlainWords>) -> Res
     match values {
         [] => Ok(()),
         [base, words, rest @ ..] => {
-            let Some(found) = words_in(*base, *words) else {
-                return Err(unfit(alloc, *base, *words));
-            };
+            let found = words_in(alloc, *base, *words)?;
             if plain.push(found).is_err() {
                 return Err(LineFault::Memory);
             }
             add_plain(alloc, rest, plain)
         }
-        [base, ..] => Err(unfit(alloc, *base, "")),
+        [..] => Err(unfit(alloc, "", PLAIN_OPTION, PLAIN_WORDS)),
     }
 }
 

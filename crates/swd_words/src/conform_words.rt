@@ -6,9 +6,9 @@ ghost use Rattle.swd_words.specs.Commands.{AreConformArguments};
 use crate::argument::{Argument, CommandRow, Form};
 use crate::check_words::{CLEAN, plain_in};
 use crate::fault::LineFault;
-use crate::lead_words::{FRAMED, PROBE, REMOTE, SPEED, lead_in};
+use crate::lead_words::{FRAMED, PROBE, REMOTE, SPEED, remote_in};
 use crate::target_words::idr_in;
-use crate::words::{invalid, is_set, refused, text_in};
+use crate::words::{is_set, refused, text_in, value_in};
 use clap::ArgMatches;
 use clap::error::ErrorKind;
 use std::alloc::Global;
@@ -60,11 +60,7 @@ Status: 0 fits; 1 breaks, or a transfer at ADDR was no bus error; 2 crowded, an
 error, the other end went away, the port answered no request, or it ended
 early.";
 
-const NO_TARGET: &str = "the target is missing: give --remote or --probe FILE";
-
 const ONE_MEMORY: &str = "give the memory that may be overwritten: --plain BASE WORDS, once";
-
-const HOLE_FORM: &str = "it is not 1 to 8 hexadecimal digits";
 
 // The memory of a run.
 const MEMORY: Argument = Argument {
@@ -105,30 +101,18 @@ pub(crate) fn conform_line(
 ) -> Result<ConformLine, LineFault>
     ensures { IfOk result (λ conform. AreConformArguments conform (rows_of (found_of matches.now))) }
 {
-    let lead = lead_in(alloc, matches)?;
-    let (remote, probe) = lead;
-    let Some(remote) = remote else {
-        let kind = ErrorKind::MissingRequiredArgument;
-        return Err(refused(alloc, kind, NO_TARGET));
-    };
-    let given = matches.get_str("hole");
-    let Some(hole) = idr_in(given) else {
-        let kind = ErrorKind::InvalidValue;
-        return Err(invalid(alloc, kind, given, "--hole <ADDR>", HOLE_FORM));
-    };
+    let lead = remote_in(alloc, matches)?;
+    let hole = idr_in(alloc, value_in(matches, "hole"), "--hole <ADDR>")?;
     let steps = text_in(alloc, matches, "steps")?;
     let clean = is_set(matches, "clean");
-    let plain = match plain_in(alloc, matches) {
-        Ok(plain) => plain,
-        Err(fault) => return Err(fault),
-    };
-    let Some(plain) = only_one(plain.as_slice()) else {
+    let all = plain_in(alloc, matches)?;
+    let Some(plain) = only_one(all.as_slice()) else {
         let kind = ErrorKind::MissingRequiredArgument;
         return Err(refused(alloc, kind, ONE_MEMORY));
     };
     Ok(ConformLine {
-        remote,
-        probe,
+        remote: lead.0,
+        probe: lead.1,
         plain,
         hole,
         steps,

@@ -6,7 +6,7 @@ ghost use Rattle.swd_words.specs.Commands.{AreCoreArguments, core_action_word};
 use crate::argument::{Argument, CommandRow, Form};
 use crate::fault::LineFault;
 use crate::lead_words::{FRAMED, PROBE, REMOTE, SPEED, is_local, lead_in};
-use crate::words::{RESUME, TRACE, TRIES, invalid, is_set, numbers_in, refused, text_in};
+use crate::words::{RESUME, TRACE, TRIES, is_set, numbers_in, refused, text_in, unfit, value_in};
 use clap::ArgMatches;
 use clap::error::ErrorKind;
 use std::alloc::Global;
@@ -107,8 +107,7 @@ fn registers_in(alloc: Global, names: &[&str]) -> Result<Vec<CoreRegister>, Line
     let mut registers = Vec::new(alloc);
     for name in names {
         let Some(register) = named(*name) else {
-            let kind = ErrorKind::InvalidValue;
-            return Err(invalid(alloc, kind, Some(*name), "[NAME]...", NAME_FORM));
+            return Err(unfit(alloc, *name, "[NAME]...", NAME_FORM));
         };
         if registers.push(register).is_err() {
             return Err(LineFault::Memory);
@@ -134,8 +133,7 @@ fn writes_in(alloc: Global, arguments: &[&str]) -> Result<Vec<CoreWrite>, LineFa
     let mut writes = Vec::new(alloc);
     for argument in arguments {
         let Some(write) = write_in(*argument) else {
-            let kind = ErrorKind::InvalidValue;
-            return Err(invalid(alloc, kind, Some(*argument), "[NAME]...", WRITE_FORM));
+            return Err(unfit(alloc, *argument, "[NAME]...", WRITE_FORM));
         };
         if writes.push(write).is_err() {
             return Err(LineFault::Memory);
@@ -165,10 +163,7 @@ fn plain_in(alloc: Global, word: &str, names: &[&str]) -> Result<CoreAction, Lin
     match plain_action(word) {
         Some(action) if names.is_empty() => Ok(action),
         Some(_) => Err(refused(alloc, ErrorKind::ArgumentConflict, NO_NAMES)),
-        None => {
-            let kind = ErrorKind::InvalidValue;
-            Err(invalid(alloc, kind, Some(word), "<ACTION>", ACTION_FORM))
-        }
+        None => Err(unfit(alloc, word, "<ACTION>", ACTION_FORM)),
     }
 }
 
@@ -208,9 +203,8 @@ fn action_in(alloc: Global, matches: &ArgMatches<'_>) -> Result<CoreAction, Line
     ensures { IfOk result (λ action. first_of (codes "ACTION") (rows_of (found_of matches.now))
         ≡ Some (core_action_word action)) }
 {
-    let Some(word) = matches.get_str("ACTION") else {
-        let kind = ErrorKind::MissingRequiredArgument;
-        return Err(invalid(alloc, kind, None, "<ACTION>", ACTION_FORM));
+    let Some(word) = value_in(matches, "ACTION") else {
+        return Err(LineFault::Memory);
     };
     let action = named_action(alloc, word, matches)?;
     Ok(action)

@@ -1,13 +1,12 @@
 //! The arguments of `swd draw`.
-ghost use Rattle.std.specs.Prelude.{IfOk, IfSome};
-ghost use Rattle.std.specs.Option.{option_map};
+ghost use Rattle.std.specs.Prelude.{IfOk};
 ghost use Rattle.clap.specs.Words.{found_of, rows_of};
-ghost use Rattle.swd_words.specs.Commands.{AreDrawArguments, IsItemsArgument};
+ghost use Rattle.swd_words.specs.Commands.{AreDrawArguments};
 
 use crate::argument::{Argument, CommandRow, Form};
 use crate::decode_words::{NAMES, OVERRUN, OVERRUN_WITH_RESYNC, RESYNC};
 use crate::fault::LineFault;
-use crate::words::{FILE, invalid, is_set, number_in, refused, text_in};
+use crate::words::{FILE, NumberOption, is_set, number_in, refused, text_in, value_in};
 use clap::ArgMatches;
 use clap::error::ErrorKind;
 use std::alloc::Global;
@@ -29,13 +28,13 @@ The first items are drawn, as many as --items says. The picture says how many it
 leaves out. It is 72 pixels high, and 140 more for each item. The whole trace is
 read first: where it is invalid there is no picture.";
 
-// The most items of a drawing without --items.
-const ITEMS: u32 = 200;
-
-/// The option for the most items, as `clap` names it, and what is said of a number that is too small or too large.
-pub(crate) const ITEMS_OPTION: &str = "--items <N>";
-
-pub(crate) const ITEMS_RANGE: &str = "it is not in 1..=1000";
+/// The most items of a drawing.
+pub(crate) const ITEMS: NumberOption = NumberOption {
+    word: "--items",
+    shown: "--items <N>",
+    range: "it is not in 1..=1000",
+    default: 200,
+};
 
 /// The command `draw`.
 pub(crate) const DRAW: CommandRow = CommandRow {
@@ -55,16 +54,6 @@ pub(crate) const DRAW: CommandRow = CommandRow {
     ],
 };
 
-// Returns the most items, 200 without an argument. Returns `None` if it isn't a number of 0 to 1,000.
-fn items_in(word: Option<&str>) -> Option<u32>
-    ensures { IfSome result (λ items. IsItemsArgument items (option_map (λ s. s.now) word.entry)) }
-{
-    match word {
-        Some(word) => number_in(word),
-        None => Some(ITEMS),
-    }
-}
-
 /// Returns the arguments of `swd draw`. Rejects `--overrun` without `--resync`.
 pub(crate) fn draw_line(alloc: Global, matches: &ArgMatches<'_>) -> Result<DrawLine, LineFault>
     ensures { IfOk result (λ draw. AreDrawArguments draw (rows_of (found_of matches.now))) }
@@ -75,11 +64,7 @@ pub(crate) fn draw_line(alloc: Global, matches: &ArgMatches<'_>) -> Result<DrawL
         let kind = ErrorKind::MissingRequiredArgument;
         return Err(refused(alloc, kind, OVERRUN_WITH_RESYNC));
     }
-    let given = matches.get_str("items");
-    let Some(items) = items_in(given) else {
-        let kind = ErrorKind::InvalidValue;
-        return Err(invalid(alloc, kind, given, ITEMS_OPTION, ITEMS_RANGE));
-    };
+    let items = number_in(alloc, value_in(matches, "items"), ITEMS)?;
     let names = is_set(matches, "names");
     let file = text_in(alloc, matches, "FILE")?;
     Ok(DrawLine {

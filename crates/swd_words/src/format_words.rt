@@ -1,11 +1,13 @@
 //! The format of an image's file, by an option or by the file's name.
-ghost use Rattle.std.specs.Prelude.{◌≡◌, IfSome, codes};
+ghost use Rattle.std.specs.Prelude.{◌≡◌, IfOk, IfSome, codes};
 ghost use Rattle.std.specs.Option.{option_map};
 ghost use Rattle.std.specs.Str.{bytes_eq};
 ghost use Rattle.swd_words.specs.Commands.{AreFormatArguments, IsFormatArgument, elf_choice_of_word};
 ghost use Rattle.swd_words.specs.Commands.{is_image_read as is_read_in};
 
 use crate::argument::{Argument, Form};
+use crate::fault::LineFault;
+use crate::words::unfit;
 use std::alloc::Global;
 use swd_command_line::ImageAction;
 use swd_image_files::{ElfChoice, Format};
@@ -24,32 +26,33 @@ pub(crate) const WRITTEN_FORMAT: Argument = Argument {
     help: "bin, hex or srec; by FILE's name without it",
 };
 
-/// Returns what is said of another word after `--format`.
-pub(crate) fn format_form(action: ImageAction) -> &'static str {
-    if is_read(action) {
+// Returns the error of a word after `--format` that is no format, or not one of a file that is written.
+fn no_format(alloc: Global, action: ImageAction, word: Option<&str>) -> LineFault {
+    let why = if is_read(action) {
         "it is not bin, hex, srec or elf"
     } else {
         "it is not bin, hex or srec"
-    }
+    };
+    unfit(alloc, word.unwrap_or(""), "--format <FORMAT>", why)
 }
 
-/// Returns the format of the file if it isn't ELF, and whether it is ELF. Returns `None` for a word that is no format,
-/// or not one of a file that is written.
+/// Returns the format of the file if it isn't ELF, and whether it is ELF.
 pub(crate) fn formats_in(
+    alloc: Global,
     action: ImageAction,
     word: Option<&str>,
     file: &str,
-) -> Option<(Format, ElfChoice)>
-    ensures { IfSome result (λ found. AreFormatArguments action found.0 found.1 file.now
+) -> Result<(Format, ElfChoice), LineFault>
+    ensures { IfOk result (λ found. AreFormatArguments action found.0 found.1 file.now
         (option_map (λ s. s.now) word.entry)) }
 {
     let elf = elf_in(word);
     if elf == ElfChoice::Always && !is_read(action) {
-        return None;
+        return Err(no_format(alloc, action, word));
     }
     match format_in(word, file) {
-        Some(format) => Some((format, elf)),
-        None => None,
+        Some(format) => Ok((format, elf)),
+        None => Err(no_format(alloc, action, word)),
     }
 }
 

@@ -9,12 +9,12 @@ ghost use Rattle.swd_words.specs.Commands.{AreBytesInUnits, AreFormatArguments, 
 
 use crate::argument::{Argument, CommandRow, Form};
 use crate::fault::LineFault;
-use crate::format_words::{READ_FORMAT, WRITTEN_FORMAT, format_form, formats_in};
+use crate::format_words::{READ_FORMAT, WRITTEN_FORMAT, formats_in};
 use crate::lead_words::{FRAMED, PROBE, REMOTE, SPEED, lead_in};
 use crate::memory_words::{BASE, MEMORY, target_in};
 use crate::words::{
-    BURSTS, PLAN, PROGRESS, RESUME, SESSION, TRIES, invalid, is_set, numbers_in, refused, text_in,
-    unknown, why_unwatched,
+    BURSTS, HEX_FORM, PLAN, PROGRESS, RESUME, SESSION, TRIES, is_set, numbers_in, refused, text_in,
+    unfit, unknown, value_in, why_unwatched,
 };
 use clap::ArgMatches;
 use clap::error::ErrorKind;
@@ -118,8 +118,6 @@ has the result:
 Status: 0 if all was dumped, 1 if the run ended early, an access met a bus error
 or the other end went away, 2 at an error. With --check it is 1 in place of 0 if
 the verdict is breaks.";
-
-const ADDR_FORM: &str = "it is not 1 to 8 hexadecimal digits";
 
 const BYTES_FORM: &str =
     "it is not a number below 2^32: decimal, as 64k or 1M, or hexadecimal behind 0x";
@@ -238,14 +236,17 @@ pub(crate) const DUMP: CommandRow = CommandRow {
     ],
 };
 
-// Returns the address of an argument, or `None` if it isn't one.
-fn addr_in(word: Option<&str>) -> Option<u32>
-    ensures { IfSome result (λ addr. Some addr
+// Returns the address of an argument.
+fn addr_in(alloc: Global, word: Option<&str>) -> Result<u32, LineFault>
+    ensures { IfOk result (λ addr. Some addr
         ≡ option_and_then (λ text. script_hex_number text) (option_map (λ s. s.now) word.entry)) }
 {
-    match word {
-        Some(word) => hex_of(word.as_bytes()),
-        None => None,
+    let Some(word) = word else {
+        return Err(LineFault::Memory);
+    };
+    match hex_of(word.as_bytes()) {
+        Some(addr) => Ok(addr),
+        None => Err(unfit(alloc, word, "<ADDR>", HEX_FORM)),
     }
 }
 
@@ -297,11 +298,6 @@ fn units_of(digits: &[u8], size: u32) -> Option<u32>
     decimal_of(digits)?.checked_mul(size)
 }
 
-// Returns the error of a value that isn't one of this argument.
-fn unfit(alloc: Global, value: Option<&str>, argument: &str, why: &str) -> LineFault {
-    invalid(alloc, ErrorKind::InvalidValue, value, argument, why)
-}
-
 // Returns what the command of this name does with an image.
 fn action_of(alloc: Global, name: &str, matches: &ArgMatches<'_>) -> Result<ImageAction, LineFault>
     ensures { IfOk result (λ action. IsActionArgument action name.now (rows_of (found_of matches.now))) }
@@ -310,10 +306,10 @@ fn action_of(alloc: Global, name: &str, matches: &ArgMatches<'_>) -> Result<Imag
         "load" => Ok(ImageAction::Load),
         "verify" => Ok(ImageAction::Verify),
         "dump" => {
-            let bytes = matches.get_str("BYTES");
+            let bytes = value_in(matches, "BYTES");
             match count_in(bytes) {
                 Some(count) => Ok(ImageAction::Dump(count)),
-                None => Err(unfit(alloc, bytes, "<BYTES>", BYTES_FORM)),
+                None => Err(unfit(alloc, bytes.unwrap_or(""), "<BYTES>", BYTES_FORM)),
             }
         }
         _ => Err(unknown(alloc)),
@@ -330,14 +326,10 @@ fn formats_of(
         (λ file. AreFormatArguments action found.0 found.1 file
         (first_of (codes "format") (rows_of (found_of matches.now))))) }
 {
-    let Some(file) = matches.get_str("FILE") else {
+    let Some(file) = value_in(matches, "FILE") else {
         return Err(LineFault::Memory);
     };
-    let word = matches.get_str("format");
-    match formats_in(action, word, file) {
-        Some(formats) => Ok(formats),
-        None => Err(unfit(alloc, word, "--format <FORMAT>", format_form(action))),
-    }
+    formats_in(alloc, action, value_in(matches, "format"), file)
 }
 
 // Returns the file, and the file of the reports.
@@ -363,10 +355,7 @@ pub(crate) fn image_line(
     ensures { IfOk result (λ image. AreImageArguments image name.now (rows_of (found_of matches.now))) }
 {
     let action = action_of(alloc, name, matches)?;
-    let address = matches.get_str("ADDR");
-    let Some(addr) = addr_in(address) else {
-        return Err(unfit(alloc, address, "<ADDR>", ADDR_FORM));
-    };
+    let addr = addr_in(alloc, value_in(matches, "ADDR"))?;
     let numbers = numbers_in(alloc, matches)?;
     if let Some(why) = why_unwatched(matches) {
         return Err(refused(alloc, ErrorKind::ArgumentConflict, why));

@@ -5,10 +5,9 @@ ghost use Rattle.swd_words.specs.Commands.{AreInfoArguments};
 
 use crate::argument::CommandRow;
 use crate::fault::LineFault;
-use crate::lead_words::{FRAMED, PROBE, REMOTE, SPEED, lead_in};
-use crate::words::{TRIES, numbers_in, refused};
+use crate::lead_words::{FRAMED, PROBE, REMOTE, SPEED, remote_in};
+use crate::words::{TRIES, numbers_in};
 use clap::ArgMatches;
-use clap::error::ErrorKind;
 use std::alloc::Global;
 use swd_command_line::InfoLine;
 
@@ -25,8 +24,6 @@ If the opening failed, the last line says how far it came. Designer 23b is Arm.
 Status: 0 if the target was opened, 1 if it wasn't, the other end went away, or
 its line can't be read or written, 2 at any other error.";
 
-const NO_TARGET: &str = "the target is missing: give --remote or --probe FILE";
-
 /// The command `info`.
 pub(crate) const INFO: CommandRow = CommandRow {
     name: "info",
@@ -39,16 +36,11 @@ pub(crate) const INFO: CommandRow = CommandRow {
 pub(crate) fn info_line(alloc: Global, matches: &ArgMatches<'_>) -> Result<InfoLine, LineFault>
     ensures { IfOk result (λ info. AreInfoArguments info (rows_of (found_of matches.now))) }
 {
-    let lead = lead_in(alloc, matches)?;
-    let (remote, probe) = lead;
-    let Some(remote) = remote else {
-        let kind = ErrorKind::MissingRequiredArgument;
-        return Err(refused(alloc, kind, NO_TARGET));
-    };
+    let lead = remote_in(alloc, matches)?;
     let numbers = numbers_in(alloc, matches)?;
     Ok(InfoLine {
-        remote,
-        probe,
+        remote: lead.0,
+        probe: lead.1,
         tries: numbers.0,
     })
 }

@@ -1,5 +1,5 @@
 //! The options for what leads to a remote target: a server of remote_bitbang, or a debug probe.
-ghost use Rattle.std.specs.Prelude.{◌≡◌, ◌≢◌, IfOk, IfSome, None, codes, false, true};
+ghost use Rattle.std.specs.Prelude.{◌≡◌, ◌≢◌, IfOk, None, Some, codes, false, true};
 ghost use Rattle.std.specs.Option.{option_map};
 ghost use Rattle.std.specs.String.{string_bytes};
 ghost use Rattle.clap.specs.Words.{first_of, found_of, rows_of};
@@ -8,7 +8,7 @@ ghost use Rattle.swd_words.specs.Commands.{AreLeadArguments, IsSpeedArgument};
 use crate::argument::{Argument, Form};
 use crate::fault::LineFault;
 use crate::memory_words::is_missing;
-use crate::words::{invalid, is_set, refused, text_in};
+use crate::words::{is_set, refused, text_in, unfit, value_in};
 use clap::ArgMatches;
 use clap::error::ErrorKind;
 use std::alloc::Global;
@@ -19,6 +19,8 @@ use swd_script::decimal_of;
 const DEFAULT_SPEED: u32 = 1_000_000;
 
 const SPEED_FORM: &str = "it is not 1 to 10 decimal digits of a number from 1 to 4294967295";
+
+const NO_TARGET: &str = "the target is missing: give --remote or --probe FILE";
 
 const TWO_LEADS: &str = "--remote and --probe FILE are two targets: give one of them";
 
@@ -52,16 +54,16 @@ pub(crate) const FRAMED: Argument = Argument {
     help: "With --probe: each packet has its length before it",
 };
 
-// Returns the frequency of SWCLK, or `None` if it isn't one.
-fn speed_in(word: Option<&str>) -> Option<u32>
-    ensures { IfSome result (λ speed. IsSpeedArgument speed (option_map (λ s. s.now) word.entry)) }
+// Returns the frequency of SWCLK.
+fn speed_in(alloc: Global, word: Option<&str>) -> Result<u32, LineFault>
+    ensures { IfOk result (λ speed. IsSpeedArgument speed (option_map (λ s. s.now) word.entry)) }
 {
     match word {
         Some(word) => match decimal_of(word.as_bytes()) {
-            Some(speed) if speed > 0 => Some(speed),
-            _ => None,
+            Some(speed) if speed > 0 => Ok(speed),
+            _ => Err(unfit(alloc, word, "--speed <HERTZ>", SPEED_FORM)),
         },
-        None => Some(DEFAULT_SPEED),
+        None => Ok(DEFAULT_SPEED),
     }
 }
 
@@ -72,10 +74,10 @@ pub(crate) fn is_local(matches: &ArgMatches<'_>) -> bool
     ensures remote { result ≡ false → first_of (codes "remote") (rows_of (found_of matches.now)) ≡ None
         → first_of (codes "probe") (rows_of (found_of matches.now)) ≢ None }
 {
-    if !is_missing(matches.get_str("remote")) {
+    if !is_missing(matches, "remote") {
         return false;
     }
-    is_missing(matches.get_str("probe"))
+    is_missing(matches, "probe")
 }
 
 /// Returns what leads to a remote target, if the arguments name it, and the probe there, if it is one.
@@ -87,22 +89,34 @@ pub(crate) fn lead_in(
         (rows_of (found_of matches.now))) }
 {
     let kind = ErrorKind::ArgumentConflict;
-    let given = matches.get_str("speed");
     let framed = is_set(matches, "framed");
-    if is_missing(matches.get_str("probe")) {
-        if framed || !is_missing(given) {
+    if is_missing(matches, "probe") {
+        if framed || !is_missing(matches, "speed") {
             return Err(refused(alloc, kind, NO_PROBE));
         }
         let remote = text_in(alloc, matches, "remote")?;
         return Ok((remote, None));
     }
-    if !is_missing(matches.get_str("remote")) {
+    if !is_missing(matches, "remote") {
         return Err(refused(alloc, kind, TWO_LEADS));
     }
-    let Some(speed) = speed_in(given) else {
-        let kind = ErrorKind::InvalidValue;
-        return Err(invalid(alloc, kind, given, "--speed <HERTZ>", SPEED_FORM));
-    };
+    let speed = speed_in(alloc, value_in(matches, "speed"))?;
     let files = text_in(alloc, matches, "probe")?;
     Ok((files, Some(ProbeLine { speed, framed })))
+}
+
+/// Returns what leads to a remote target, and the probe there, if it is one. Rejects arguments that don't name it.
+pub(crate) fn remote_in(
+    alloc: Global,
+    matches: &ArgMatches<'_>,
+) -> Result<(String, Option<ProbeLine>), LineFault>
+    ensures { IfOk result (λ found. AreLeadArguments (Some (string_bytes found.0)) found.1
+        (rows_of (found_of matches.now))) }
+{
+    let lead = lead_in(alloc, matches)?;
+    let (remote, probe) = lead;
+    match remote {
+        Some(remote) => Ok((remote, probe)),
+        None => Err(refused(alloc, ErrorKind::MissingRequiredArgument, NO_TARGET)),
+    }
 }

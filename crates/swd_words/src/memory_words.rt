@@ -1,14 +1,15 @@
 //! The options for the target of `swd load`, `swd verify` and `swd dump`: remote, or simulated.
 //! And those for the memory that `swd target` serves.
-ghost use Rattle.std.specs.Prelude.{◌≡◌, ◌%◌, ◌↔◌, IfOk, IfSome, None, true};
+ghost use Rattle.std.specs.Prelude.{◌≡◌, ◌%◌, ◌↔◌, IfOk, None, Some, true};
 ghost use Rattle.std.specs.Option.{option_map};
-ghost use Rattle.clap.specs.Words.{found_of, rows_of};
+ghost use Rattle.clap.specs.Words.{first_of, found_of, rows_of};
+ghost use Rattle.swd_script.specs.Numerals.{script_hex_number};
 ghost use Rattle.swd_words.specs.Commands.{IsBaseArgument, AreMemoryArguments, IsTargetArgument};
 
 use crate::argument::{Argument, Form};
 use crate::fault::LineFault;
 use crate::lead_words::is_local;
-use crate::words::{invalid, refused, text_in};
+use crate::words::{refused, text_in, unfit, value_in};
 use clap::ArgMatches;
 use clap::error::ErrorKind;
 use std::alloc::Global;
@@ -40,24 +41,39 @@ pub(crate) const BASE: Argument = Argument {
     help: "With --memory: its address, hexadecimal; else 20000000",
 };
 
-/// Returns whether an argument isn't given.
-pub(crate) fn is_missing(word: Option<&str>) -> bool
+// Returns whether there is no value.
+fn is_none(word: Option<&str>) -> bool
     ensures { (result ≡ true) ↔ (option_map (λ s. s.now) word.entry ≡ None) }
 {
     word.is_none()
 }
 
-// Returns the address of a simulated memory, or `None` if it is no address of a word.
-fn base_in(word: Option<&str>) -> Option<u32>
-    ensures base { IfSome result (λ base. IsBaseArgument base (option_map (λ s. s.now) word.entry)) }
-    ensures aligned { IfSome result (λ base. base % 4 ≡ 0) }
+/// Returns whether an argument isn't given.
+pub(crate) fn is_missing(matches: &ArgMatches<'_>, name: &str) -> bool
+    ensures { (result ≡ true) ↔ (first_of name.now (rows_of (found_of matches.now)) ≡ None) }
+{
+    is_none(value_in(matches, name))
+}
+
+/// Returns the address of a word, a multiple of 4, that an argument has.
+pub(crate) fn address_in(alloc: Global, word: &str, argument: &str) -> Result<u32, LineFault>
+    ensures address { IfOk result (λ base. Some base ≡ script_hex_number word.now) }
+    ensures aligned { IfOk result (λ base. base % 4 ≡ 0) }
+{
+    match hex_of(word.as_bytes()) {
+        Some(base) if base % 4 == 0 => Ok(base),
+        _ => Err(unfit(alloc, word, argument, BASE_FORM)),
+    }
+}
+
+// Returns the address of a simulated memory.
+fn base_in(alloc: Global, word: Option<&str>) -> Result<u32, LineFault>
+    ensures base { IfOk result (λ base. IsBaseArgument base (option_map (λ s. s.now) word.entry)) }
+    ensures aligned { IfOk result (λ base. base % 4 ≡ 0) }
 {
     match word {
-        Some(word) => match hex_of(word.as_bytes()) {
-            Some(base) if base % 4 == 0 => Some(base),
-            _ => None,
-        },
-        None => Some(DEFAULT_BASE),
+        Some(word) => address_in(alloc, word, "--base <ADDR>"),
+        None => Ok(DEFAULT_BASE),
     }
 }
 
@@ -73,11 +89,7 @@ pub(crate) fn memory_line(
         let kind = ErrorKind::MissingRequiredArgument;
         return Err(refused(alloc, kind, missing));
     };
-    let given = matches.get_str("base");
-    let Some(base) = base_in(given) else {
-        let kind = ErrorKind::InvalidValue;
-        return Err(invalid(alloc, kind, given, "--base <ADDR>", BASE_FORM));
-    };
+    let base = base_in(alloc, value_in(matches, "base"))?;
     let plan = text_in(alloc, matches, "plan")?;
     Ok(MemoryLine { file, base, plan })
 }
@@ -95,13 +107,13 @@ pub(crate) fn target_in(
             Err(fault) => Err(fault),
         };
     }
-    if !is_missing(matches.get_str("memory")) {
+    if !is_missing(matches, "memory") {
         return Err(refused(alloc, ErrorKind::ArgumentConflict, TWO_TARGETS));
     }
-    if !is_missing(matches.get_str("base")) {
+    if !is_missing(matches, "base") {
         return Err(refused(alloc, ErrorKind::ArgumentConflict, NO_MEMORY));
     }
-    if !is_missing(matches.get_str("plan")) {
+    if !is_missing(matches, "plan") {
         return Err(refused(alloc, ErrorKind::ArgumentConflict, NO_MEMORY));
     }
     Ok(None)

@@ -1,5 +1,5 @@
 //! The arguments of `swd target` and `swd probe`.
-ghost use Rattle.std.specs.Prelude.{◌≡◌, IfOk, IfSome, None};
+ghost use Rattle.std.specs.Prelude.{◌≡◌, IfOk, None};
 ghost use Rattle.std.specs.Option.{option_map};
 ghost use Rattle.clap.specs.Words.{found_of, rows_of};
 ghost use Rattle.swd_words.specs.Commands.{AreServedArguments, AreTargetArguments, IsIdrArgument};
@@ -8,7 +8,7 @@ ghost use Rattle.swd_words.specs.Commands.{AreProbeArguments, IsSizeArgument};
 use crate::argument::{Argument, CommandRow, Form};
 use crate::fault::LineFault;
 use crate::memory_words::{BASE, is_missing, memory_line};
-use crate::words::{PLAN, TRACE, invalid, refused, text_in};
+use crate::words::{HEX_FORM, PLAN, TRACE, refused, text_in, unfit, value_in};
 use clap::ArgMatches;
 use clap::error::ErrorKind;
 use std::alloc::Global;
@@ -76,8 +76,6 @@ const TWO_MEMORIES: &str = "SCRIPT and --memory FILE are two memories: give one 
 
 const NO_BASE: &str = "--base ADDR goes with --memory FILE";
 
-const IDR_FORM: &str = "it is not 1 to 8 hexadecimal digits";
-
 // The script of the target.
 const SCRIPT: Argument = Argument {
     name: "SCRIPT",
@@ -139,26 +137,30 @@ fn served_memory(alloc: Global, matches: &ArgMatches<'_>) -> Result<ServedMemory
             Err(fault) => Err(fault),
         };
     };
-    if !is_missing(matches.get_str("memory")) {
+    if !is_missing(matches, "memory") {
         return Err(refused(alloc, ErrorKind::ArgumentConflict, TWO_MEMORIES));
     }
-    if !is_missing(matches.get_str("base")) {
+    if !is_missing(matches, "base") {
         return Err(refused(alloc, ErrorKind::ArgumentConflict, NO_BASE));
     }
     let plan = text_in(alloc, matches, "plan")?;
     Ok(ServedMemory::Script(ScriptLine { script, plan }))
 }
 
-/// Returns the word of an option for IDR or another word, or `None` if it isn't one.
-pub(crate) fn idr_in(word: Option<&str>) -> Option<Option<u32>>
-    ensures { IfSome result (λ idr. IsIdrArgument idr (option_map (λ s. s.now) word.entry)) }
+/// Returns the word of an option for IDR or another word.
+pub(crate) fn idr_in(
+    alloc: Global,
+    word: Option<&str>,
+    option: &str,
+) -> Result<Option<u32>, LineFault>
+    ensures { IfOk result (λ idr. IsIdrArgument idr (option_map (λ s. s.now) word.entry)) }
 {
     match word {
         Some(word) => match hex_of(word.as_bytes()) {
-            Some(idr) => Some(Some(idr)),
-            None => None,
+            Some(idr) => Ok(Some(idr)),
+            None => Err(unfit(alloc, word, option, HEX_FORM)),
         },
-        None => Some(None),
+        None => Ok(None),
     }
 }
 
@@ -168,11 +170,7 @@ pub(crate) fn target_line(alloc: Global, matches: &ArgMatches<'_>) -> Result<Tar
     ensures characters { IfOk result (λ target. target.packet_size ≡ None) }
 {
     let memory = served_memory(alloc, matches)?;
-    let given = matches.get_str("idr");
-    let Some(idr) = idr_in(given) else {
-        let kind = ErrorKind::InvalidValue;
-        return Err(invalid(alloc, kind, given, "--idr <WORD>", IDR_FORM));
-    };
+    let idr = idr_in(alloc, value_in(matches, "idr"), "--idr <WORD>")?;
     let log = text_in(alloc, matches, "log")?;
     let trace = text_in(alloc, matches, "trace")?;
     Ok(TargetLine {
@@ -184,16 +182,16 @@ pub(crate) fn target_line(alloc: Global, matches: &ArgMatches<'_>) -> Result<Tar
     })
 }
 
-// Returns the size of packets, 64 without an argument. Returns `None` if it isn't one of 64 to 512.
-fn size_in(word: Option<&str>) -> Option<u32>
-    ensures { IfSome result (λ size. IsSizeArgument size (option_map (λ s. s.now) word.entry)) }
+// Returns the size of packets, 64 without an argument.
+fn size_in(alloc: Global, word: Option<&str>) -> Result<u32, LineFault>
+    ensures { IfOk result (λ size. IsSizeArgument size (option_map (λ s. s.now) word.entry)) }
 {
     match word {
         Some(word) => match decimal_of(word.as_bytes()) {
-            Some(size) if 64 <= size && size <= 512 => Some(size),
-            _ => None,
+            Some(size) if 64 <= size && size <= 512 => Ok(size),
+            _ => Err(unfit(alloc, word, SIZE_OPTION, SIZE_RANGE)),
         },
-        None => Some(64),
+        None => Ok(64),
     }
 }
 
@@ -201,11 +199,7 @@ fn size_in(word: Option<&str>) -> Option<u32>
 pub(crate) fn probe_line(alloc: Global, matches: &ArgMatches<'_>) -> Result<TargetLine, LineFault>
     ensures { IfOk result (λ target. AreProbeArguments target (rows_of (found_of matches.now))) }
 {
-    let given = matches.get_str("size");
-    let Some(size) = size_in(given) else {
-        let kind = ErrorKind::InvalidValue;
-        return Err(invalid(alloc, kind, given, SIZE_OPTION, SIZE_RANGE));
-    };
+    let size = size_in(alloc, value_in(matches, "size"))?;
     let target = target_line(alloc, matches)?;
     Ok(TargetLine {
         packet_size: Some(size),

@@ -1,5 +1,5 @@
 //! Parses the arguments of the command line.
-ghost use Rattle.std.specs.Prelude.{◌≡◌, ◌↔◌, IfOk, IfErr, IfSome, Some, [], map, true, false, codes, if◌then◌else◌};
+ghost use Rattle.std.specs.Prelude.{◌≡◌, ◌↔◌, IfOk, IfErr, Some, [], map, true, false, codes, if◌then◌else◌};
 ghost use Rattle.std.specs.Str.{bytes_eq};
 ghost use Rattle.std.specs.Option.{option_map};
 ghost use Rattle.std.specs.String.{string_bytes};
@@ -8,7 +8,7 @@ ghost use Rattle.clap.specs.Words.{fault_of, first_of, kind_of};
 ghost use Rattle.clap.specs.declared.builder.command.Command.TheViews.{out-Command};
 ghost use Rattle.swd_words.specs.Commands.{arguments_spelled_out, remote_spelled_out};
 ghost use Rattle.swd_words.specs.Commands.{bare_args_app, swd_app};
-ghost use Rattle.swd_words.specs.Commands.{IsResumeArgument, IsTriesArgument, IsLineOfArguments};
+ghost use Rattle.swd_words.specs.Commands.{IsLineOfArguments, IsNumberArgument};
 ghost use Rattle.swd_words.specs.Commands.{IsArgumentsErrorKind, AreRunArguments, IsArgumentsRefusal};
 
 use crate::argument::{Argument, CommandRow, Form, with_commands};
@@ -16,7 +16,7 @@ use crate::check_words::{CHECK, check_line};
 use crate::conform_words::{CONFORM, conform_line};
 use crate::core_words::{CORE, core_line};
 use crate::decode_words::{DECODE, decode_line};
-use crate::draw_words::{DRAW, ITEMS_OPTION, ITEMS_RANGE, draw_line};
+use crate::draw_words::{DRAW, ITEMS, draw_line};
 use crate::fault::LineFault;
 use crate::image_words::{DUMP, LOAD, VERIFY, image_line};
 use crate::info_words::{INFO, info_line};
@@ -200,17 +200,39 @@ such as /etc/udev/rules.d/60-swd.rules, and the probe was plugged in again:
 Status: 0 if there is a probe, 1 if there is none, 2 if standard output can't be
 written.";
 
-// The number of events that an access may meet: the default and the maximum.
-const DEFAULT_TRIES: u32 = 8;
+// The greatest number of an option.
+const MOST: i64 = 1000;
 
-const MOST_TRIES: i64 = 1000;
+/// An option with a number up to 1,000.
+#[derive(Clone, Copy)]
+pub(crate) struct NumberOption {
+    /// The option, and how `clap` names it.
+    pub(crate) word: &'static str,
+    pub(crate) shown: &'static str,
+    /// What is said of a number that is too small or too large.
+    pub(crate) range: &'static str,
+    /// The number without the option.
+    pub(crate) default: u32,
+}
 
-/// The options with a number up to 1,000, as `clap` names them, and what is said of another number.
-pub(crate) const TRIES_OPTION: &str = "--tries <N>";
+// The number of events that an access may meet.
+const TRIES_NUMBER: NumberOption = NumberOption {
+    word: "--tries",
+    shown: "--tries <N>",
+    range: "it is not in 0..=1000",
+    default: 8,
+};
 
-pub(crate) const RESUME_OPTION: &str = "--resume <N>";
+// How often a call is resumed.
+const RESUME_NUMBER: NumberOption = NumberOption {
+    word: "--resume",
+    shown: "--resume <N>",
+    range: "it is not in 0..=1000",
+    default: 0,
+};
 
-pub(crate) const NUMBER_RANGE: &str = "it is not in 0..=1000";
+/// What is said of a value that isn't a hexadecimal number.
+pub(crate) const HEX_FORM: &str = "it is not 1 to 8 hexadecimal digits";
 
 // What the option for a remote target is short for without a value.
 const REMOTE_STREAMS: &str = "--remote=-";
@@ -226,6 +248,13 @@ fn owned(alloc: Global, text: Option<&str>) -> Result<Option<String>, AllocError
 }
 
 /// Returns the first value of an argument, if it has one.
+pub(crate) fn value_in<'a>(matches: &ArgMatches<'a>, name: &str) -> Option<&'a str>
+    ensures { option_map (λ s. s.now) result ≡ first_of name.now (rows_of (found_of matches.now)) }
+{
+    matches.get_str(name)
+}
+
+/// Returns the same value as an owned string.
 pub(crate) fn text_in(
     alloc: Global,
     matches: &ArgMatches<'_>,
@@ -234,7 +263,7 @@ pub(crate) fn text_in(
     ensures { IfOk result (λ text. option_map string_bytes text
         ≡ first_of name.now (rows_of (found_of matches.now))) }
 {
-    match owned(alloc, matches.get_str(name)) {
+    match owned(alloc, value_in(matches, name)) {
         Ok(text) => Ok(text),
         Err(_) => Err(LineFault::Memory),
     }
@@ -409,72 +438,46 @@ pub(crate) fn refused(alloc: Global, kind: ErrorKind, why: &str) -> LineFault
     }
 }
 
-/// Returns the error of a value that an argument can't have, in the form of `clap`'s own errors.
-pub(crate) fn invalid(
-    alloc: Global,
-    kind: ErrorKind,
-    value: Option<&str>,
-    argument: &str,
-    why: &str,
-) -> LineFault
+// Returns the error of this kind of a value that an argument can't have, in the form of `clap`'s own errors.
+fn invalid(alloc: Global, kind: ErrorKind, value: &str, argument: &str, why: &str) -> LineFault
     ensures { IsArgumentsErrorKind kind result }
 {
-    let value = value.unwrap_or("");
     match format!(in alloc; "invalid value '{value}' for '{argument}': {why}") {
         Ok(text) => refused(alloc, kind, text.as_str()),
         Err(_) => LineFault::Memory,
     }
 }
 
+/// Returns the error of a value that isn't one of this argument.
+pub(crate) fn unfit(alloc: Global, value: &str, argument: &str, why: &str) -> LineFault {
+    invalid(alloc, ErrorKind::InvalidValue, value, argument, why)
+}
+
 pub(crate) fn unknown(alloc: Global) -> LineFault {
     refused(alloc, ErrorKind::InvalidSubcommand, "unknown command")
 }
 
-// Returns the negative number that follows an option with a number. `clap` reports it as an unknown option.
-fn negative_of<'a>(words: &[&'a str], option: &str) -> Option<&'a str> {
-    for pair in words.windows(2) {
-        if pair[0] == option && pair[1].parse::<i64>().is_ok_and(|number| number < 0) {
-            return Some(pair[1]);
+// Returns the first of these options that a negative number follows, and that number. `clap` reports it as an unknown
+// option.
+fn negative_of<'a>(words: &[&'a str], options: &[NumberOption]) -> Option<(NumberOption, &'a str)> {
+    for option in options {
+        for pair in words.windows(2) {
+            if pair[0] == option.word && pair[1].parse::<i64>().is_ok_and(|number| number < 0) {
+                return Some((*option, pair[1]));
+            }
         }
     }
     None
 }
 
-// A negative number, the option with a number that it follows, as `clap` names it, and what is said of the number.
-#[derive(Clone, Copy)]
-struct Negative<'a> {
-    number: &'a str,
-    option: &'static str,
-    range: &'static str,
-}
-
-// Returns the negative number that follows this option, or `otherwise` if none does.
-fn negative_or<'a>(
-    words: &[&'a str],
-    name: &str,
-    option: &'static str,
-    range: &'static str,
-    otherwise: Option<Negative<'a>>,
-) -> Option<Negative<'a>> {
-    match negative_of(words, name) {
-        Some(number) => Some(Negative {
-            number,
-            option,
-            range,
-        }),
-        None => otherwise,
-    }
-}
-
-// Returns the negative number of these arguments, if the command has an option with a number that it follows.
-fn negative_in<'a>(words: &[&'a str]) -> Option<Negative<'a>> {
+// Returns the negative number of these arguments, and the option with a number of their command that it follows.
+fn negative_in<'a>(words: &[&'a str]) -> Option<(NumberOption, &'a str)> {
     let name = words.get(1)?;
     match *name {
         "run" | "info" | "core" | "load" | "verify" | "dump" => {
-            let resume = negative_or(words, "--resume", RESUME_OPTION, NUMBER_RANGE, None);
-            negative_or(words, "--tries", TRIES_OPTION, NUMBER_RANGE, resume)
+            negative_of(words, [TRIES_NUMBER, RESUME_NUMBER].as_slice())
         }
-        "draw" => negative_or(words, "--items", ITEMS_OPTION, ITEMS_RANGE, None),
+        "draw" => negative_of(words, [ITEMS].as_slice()),
         _ => None,
     }
 }
@@ -484,69 +487,39 @@ fn line_fault(alloc: Global, words: &[&str], fault: Error) -> LineFault
     ensures { IsArgumentsErrorKind (kind_of fault) result }
 {
     match negative_in(words) {
-        Some(
-            Negative {
-                number,
-                option,
-                range,
-            },
-        ) if fault.kind() == ErrorKind::UnknownArgument => {
-            invalid(alloc, fault.kind(), Some(number), option, range)
+        Some((option, number)) if fault.kind() == ErrorKind::UnknownArgument => {
+            invalid(alloc, fault.kind(), number, option.shown, option.range)
         }
         _ => LineFault::Clap(fault),
     }
 }
 
-/// Returns the number of an argument, or `None` if it isn't one of 0 to 1,000.
-pub(crate) fn number_in(word: &str) -> Option<u32>
-    ensures { IfSome result (λ tries. IsTriesArgument tries (Some word.now)) }
+/// Returns the number of an option's value, at most 1,000.
+pub(crate) fn number_in(
+    alloc: Global,
+    word: Option<&str>,
+    option: NumberOption,
+) -> Result<u32, LineFault>
+    ensures { IfOk result (λ number. IsNumberArgument option.default number (option_map (λ s. s.now) word.entry)) }
 {
-    let Ok(number) = word.parse::<i64>() else {
-        return None;
+    let Some(word) = word else {
+        return Ok(option.default);
     };
-    if 0 <= number && number <= MOST_TRIES {
-        Some(number as u32)
-    } else {
-        None
-    }
-}
-
-// Returns the number of tries, 8 without an argument. Returns `None` if it isn't one of 0 to 1,000.
-fn tries_in(word: Option<&str>) -> Option<u32>
-    ensures { IfSome result (λ tries. IsTriesArgument tries (option_map (λ s. s.now) word.entry)) }
-{
-    match word {
-        Some(word) => number_in(word),
-        None => Some(DEFAULT_TRIES),
-    }
-}
-
-// Returns how often a call is resumed, 0 without an argument. Returns `None` if it isn't one of 0 to 1,000.
-fn resumes_in(word: Option<&str>) -> Option<u32>
-    ensures { IfSome result (λ resumes. IsResumeArgument resumes (option_map (λ s. s.now) word.entry)) }
-{
-    match word {
-        Some(word) => number_in(word),
-        None => Some(0),
+    match word.parse::<i64>() {
+        Ok(number) if 0 <= number && number <= MOST => Ok(number as u32),
+        _ => Err(unfit(alloc, word, option.shown, option.range)),
     }
 }
 
 /// Returns the number of tries, and how often a call is resumed.
 pub(crate) fn numbers_in(alloc: Global, matches: &ArgMatches<'_>) -> Result<(u32, u32), LineFault>
-    ensures tries { IfOk result (λ found. IsTriesArgument found.0
+    ensures tries { IfOk result (λ found. IsNumberArgument 8 found.0
         (first_of (codes "tries") (rows_of (found_of matches.now)))) }
-    ensures resumes { IfOk result (λ found. IsResumeArgument found.1
+    ensures resumes { IfOk result (λ found. IsNumberArgument 0 found.1
         (first_of (codes "resume") (rows_of (found_of matches.now)))) }
 {
-    let kind = ErrorKind::InvalidValue;
-    let named = matches.get_str("tries");
-    let Some(tries) = tries_in(named) else {
-        return Err(invalid(alloc, kind, named, TRIES_OPTION, NUMBER_RANGE));
-    };
-    let given = matches.get_str("resume");
-    let Some(resumes) = resumes_in(given) else {
-        return Err(invalid(alloc, kind, given, RESUME_OPTION, NUMBER_RANGE));
-    };
+    let tries = number_in(alloc, value_in(matches, "tries"), TRIES_NUMBER)?;
+    let resumes = number_in(alloc, value_in(matches, "resume"), RESUME_NUMBER)?;
     Ok((tries, resumes))
 }
 
@@ -561,7 +534,7 @@ fn is_asked_for(word: Option<&str>) -> bool
 pub(crate) fn is_set(matches: &ArgMatches<'_>, name: &str) -> bool
     ensures { (result ≡ true) ↔ (first_of name.now (rows_of (found_of matches.now)) ≡ Some (codes "true")) }
 {
-    is_asked_for(matches.get_str(name))
+    is_asked_for(value_in(matches, name))
 }
 
 // Returns the arguments of `swd run`. Rejects options that can't be combined.
@@ -629,55 +602,19 @@ fn line_of(alloc: Global, matches: &ArgMatches<'_>) -> Result<CommandLine, LineF
         return Err(unknown(alloc));
     };
     match name {
-        "one" => match text_in(alloc, rest, "FILE") {
-            Ok(file) => Ok(CommandLine::One(file)),
-            Err(fault) => Err(fault),
-        },
-        "decode" => match decode_line(alloc, rest) {
-            Ok(decode) => Ok(CommandLine::Decode(decode)),
-            Err(fault) => Err(fault),
-        },
-        "draw" => match draw_line(alloc, rest) {
-            Ok(draw) => Ok(CommandLine::Draw(draw)),
-            Err(fault) => Err(fault),
-        },
-        "check" => match check_line(alloc, rest) {
-            Ok(check) => Ok(CommandLine::Check(check)),
-            Err(fault) => Err(fault),
-        },
-        "encode" => match text_in(alloc, rest, "FILE") {
-            Ok(file) => Ok(CommandLine::Encode(file)),
-            Err(fault) => Err(fault),
-        },
-        "run" => match run_line(alloc, rest) {
-            Ok(run) => Ok(CommandLine::Run(run)),
-            Err(fault) => Err(fault),
-        },
-        "target" => match target_line(alloc, rest) {
-            Ok(target) => Ok(CommandLine::Target(target)),
-            Err(fault) => Err(fault),
-        },
-        "probe" => match probe_line(alloc, rest) {
-            Ok(target) => Ok(CommandLine::Target(target)),
-            Err(fault) => Err(fault),
-        },
-        "info" => match info_line(alloc, rest) {
-            Ok(info) => Ok(CommandLine::Info(info)),
-            Err(fault) => Err(fault),
-        },
-        "core" => match core_line(alloc, rest) {
-            Ok(core) => Ok(CommandLine::Core(core)),
-            Err(fault) => Err(fault),
-        },
-        "conform" => match conform_line(alloc, rest) {
-            Ok(conform) => Ok(CommandLine::Conform(conform)),
-            Err(fault) => Err(fault),
-        },
+        "one" => Ok(CommandLine::One(text_in(alloc, rest, "FILE")?)),
+        "decode" => Ok(CommandLine::Decode(decode_line(alloc, rest)?)),
+        "draw" => Ok(CommandLine::Draw(draw_line(alloc, rest)?)),
+        "check" => Ok(CommandLine::Check(check_line(alloc, rest)?)),
+        "encode" => Ok(CommandLine::Encode(text_in(alloc, rest, "FILE")?)),
+        "run" => Ok(CommandLine::Run(run_line(alloc, rest)?)),
+        "target" => Ok(CommandLine::Target(target_line(alloc, rest)?)),
+        "probe" => Ok(CommandLine::Target(probe_line(alloc, rest)?)),
+        "info" => Ok(CommandLine::Info(info_line(alloc, rest)?)),
+        "core" => Ok(CommandLine::Core(core_line(alloc, rest)?)),
+        "conform" => Ok(CommandLine::Conform(conform_line(alloc, rest)?)),
         "probes" => Ok(CommandLine::Probes),
-        _ => match image_line(alloc, name, rest) {
-            Ok(image) => Ok(CommandLine::Image(image)),
-            Err(fault) => Err(fault),
-        },
+        _ => Ok(CommandLine::Image(image_line(alloc, name, rest)?)),
     }
 }
 

@@ -2,7 +2,6 @@ use Rattle.std.proofs.Common.{◌∙◌, Option, sym, ap, subst, codes}
 use Rattle.std.specs.Prelude.{IsSomeAnd}
 use Rattle.std.specs.Option.{option_and_then}
 use Rattle.clap.specs.Words.{Text, first_of, found_of, rows_of}
-use Rattle.clap.proofs.WalkLemmas.{first_value-rows}
 use Rattle.swd_script.specs.Numerals.{script_hex_number}
 use Rattle.swd_words.specs.Commands.{AreFormatArguments}
 use Rattle.swd_words.proofs.image_words.image_line.Goals as goal
@@ -10,9 +9,7 @@ use Rattle.swd_words.proofs.image_words.image_line.Goals as goal
 pub returns : goal.returns
 returns c = record {
   action = c.in_ok-action.ensures;
-  addr = c.in-Some.ensures
-      ∙ ap (option_and_then (λ text. script_hex_number text))
-      (c.get_str-address.ensures ∙ first_value-rows (found_of c.args.matches.now) (codes "ADDR"));
+  addr = c.in_ok-addr.ensures ∙ ap (option_and_then (λ text. script_hex_number text)) c.value_in.ensures;
   file = c.in_ok-names.ensures.file;
   tries = c.in_ok-numbers.ensures.tries;
   resumes = c.in_ok-numbers.ensures.resumes;

@@ -1,6 +1,4 @@
-use Rattle.std.proofs.Common.{◌∙◌, Option, codes, subst, refl}
-use Rattle.clap.specs.Words.{Text, found_of}
-use Rattle.clap.proofs.WalkLemmas.{first_value-rows}
+use Rattle.std.proofs.Common.{subst, refl}
 use Rattle.swd_words.specs.Commands.{IsSizeArgument}
 use Rattle.swd_words.proofs.target_words.probe_line.Goals as goal
 
@@ -12,8 +10,7 @@ returns c = record {
     trace = c.in_ok-target.ensures.arguments.trace;
     idr = c.in_ok-target.ensures.arguments.idr;
   };
-  size = c.in-Some.size;
+  size = c.in_ok-size.size;
   packet_size = refl;
-  sized = subst (λ (word : Option Text). IsSizeArgument c.in-Some.size word)
-      (c.get_str-given.ensures ∙ first_value-rows (found_of c.args.matches.now) (codes "size")) c.in-Some.ensures;
+  sized = subst (IsSizeArgument c.in_ok-size.size) c.value_in.ensures c.in_ok-size.ensures;
 }

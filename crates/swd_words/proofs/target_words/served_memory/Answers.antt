@@ -1,8 +1,6 @@
-use Rattle.std.proofs.Common.{◌∙◌, sym, ap, codes}
+use Rattle.std.proofs.Common.{◌∙◌, sym, ap}
 use Rattle.std.specs.Option.{option_map}
 use Rattle.std.specs.String.{string_bytes}
-use Rattle.clap.specs.Words.{found_of}
-use Rattle.clap.proofs.WalkLemmas.{first_value-rows}
 use Rattle.swd_words.proofs.target_words.served_memory.Goals as goal
 
 pub returns-in-Ok : goal.returns-in-Ok
@@ -17,8 +15,6 @@ returns c = (
     file = ap (option_map string_bytes) (sym c.in-Some.is) ∙ c.in_ok-script.ensures;
     plan = c.in_ok-plan.ensures;
   },
-  sym (c.get_str.ensures ∙ first_value-rows (found_of c.args.matches.now) (codes "memory"))
-      ∙ c.is_missing.ensures.0 c.if-not-is_missing.false,
-  sym (c.get_str-2.ensures ∙ first_value-rows (found_of c.args.matches.now) (codes "base"))
-      ∙ c.is_missing-2.ensures.0 c.if-not-is_missing-2.false,
+  c.is_missing.ensures.0 c.if-not-is_missing.false,
+  c.is_missing-2.ensures.0 c.if-not-is_missing-2.false,
 )

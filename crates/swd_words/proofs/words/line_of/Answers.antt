@@ -3,16 +3,16 @@ use Rattle.clap.specs.Words.{found_of, rows_of, subcommand_rows_of}
 use Rattle.swd_words.proofs.CommandLemmas.{argument_from_rows, argument_name_in_rows}
 use Rattle.swd_words.proofs.words.line_of.Goals as goal
 
-pub returns-in-Ok : goal.returns-in-Ok
-returns-in-Ok c =
+pub returns-in-one : goal.returns-in-one
+returns-in-one c =
     argument_from_rows (subcommand_rows_of c.args.matches.now) c.in-Some.name.now (codes "one") (codes "FILE")
     (rows_of (found_of c.in-Some.rest.now)) _
     (c.in-Some.ensures.name ∙ argument_name_in_rows c.args.matches.now) c.in-Some.ensures.rows c.in-one.is
-    c.in-Ok.ensures
+    c.in_ok-text_in.ensures
 
-pub returns-in-Ok-text_in : goal.returns-in-Ok-text_in
-returns-in-Ok-text_in c =
+pub returns-in-encode : goal.returns-in-encode
+returns-in-encode c =
     argument_from_rows (subcommand_rows_of c.args.matches.now) c.in-Some.name.now (codes "encode") (codes "FILE")
     (rows_of (found_of c.in-Some.rest.now)) _
     (c.in-Some.ensures.name ∙ argument_name_in_rows c.args.matches.now) c.in-Some.ensures.rows c.in-encode.is
-    c.in-Ok-text_in.ensures
+    c.in_ok-text_in-2.ensures

@@ -1,16 +1,10 @@
-use Rattle.std.proofs.Common.{◌∙◌, Option, codes, subst}
-use Rattle.clap.specs.Words.{Text, found_of}
-use Rattle.clap.proofs.WalkLemmas.{first_value-rows}
-use Rattle.swd_words.specs.Commands.{IsResumeArgument, IsTriesArgument}
+use Rattle.std.proofs.Common.{subst}
+use Rattle.swd_words.specs.Commands.{IsNumberArgument}
 use Rattle.swd_words.proofs.words.numbers_in.Goals as goal
 
 pub returns-clause-tries : goal.returns-clause-tries
-returns-clause-tries c =
-    subst (λ (word : Option Text). IsTriesArgument c.in-Some.tries word)
-    (c.get_str-named.ensures ∙ first_value-rows (found_of c.args.matches.now) (codes "tries")) c.in-Some.ensures
+returns-clause-tries c = subst (IsNumberArgument 8 c.in_ok-tries.tries) c.value_in.ensures c.in_ok-tries.ensures
 
 pub returns-clause-resumes : goal.returns-clause-resumes
 returns-clause-resumes c =
-    subst (λ (word : Option Text). IsResumeArgument c.in-Some-resumes_in.resumes word)
-    (c.get_str-given.ensures ∙ first_value-rows (found_of c.args.matches.now) (codes "resume"))
-    c.in-Some-resumes_in.ensures
+    subst (IsNumberArgument 0 c.in_ok-resumes.resumes) c.value_in-2.ensures c.in_ok-resumes.ensures

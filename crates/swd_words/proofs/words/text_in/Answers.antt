@@ -1,7 +1,5 @@
 use Rattle.std.proofs.Common.{◌∙◌}
-use Rattle.clap.specs.Words.{found_of}
-use Rattle.clap.proofs.WalkLemmas.{first_value-rows}
 use Rattle.swd_words.proofs.words.text_in.Goals as goal
 
 pub returns-in-Ok : goal.returns-in-Ok
-returns-in-Ok c = c.in-Ok.ensures ∙ c.get_str.ensures ∙ first_value-rows (found_of c.args.matches.now) c.args.name.now
+returns-in-Ok c = c.in-Ok.ensures ∙ c.value_in.ensures
