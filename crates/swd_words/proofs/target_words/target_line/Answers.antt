@@ -11,4 +11,5 @@ returns-clause-arguments c = record {
   trace = c.in_ok-trace.ensures;
   idr = subst (λ (word : Option Text). IsIdrArgument c.in-Some.idr word)
       (c.get_str-given.ensures ∙ first_value-rows (found_of c.args.matches.now) (codes "idr")) c.in-Some.ensures;
+  buffers = c.is_set.ensures;
 }
