@@ -38,10 +38,10 @@ _swd() {
         words='--plan --tries --resume --trace --accesses --strict --remote --probe --speed --framed --report --progress --check --bursts --help -h'
         ;;
     target)
-        words='--memory --base --plan --log --trace --idr --help -h'
+        words='--memory --base --plan --log --trace --idr --buffer --help -h'
         ;;
     probe)
-        words='--memory --base --plan --log --trace --idr --size --help -h'
+        words='--memory --base --plan --log --trace --idr --buffer --size --help -h'
         ;;
     draw)
         words='--items --names --resync --overrun --help -h'

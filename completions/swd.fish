@@ -55,6 +55,7 @@ complete -c swd -n '__fish_seen_subcommand_from target' -l plan -r -F -d 'Inject
 complete -c swd -n '__fish_seen_subcommand_from target' -l log -r -F -d 'Write the log to FILE (overwrites it)'
 complete -c swd -n '__fish_seen_subcommand_from target' -l trace -r -F -d 'Write the trace to FILE (overwrites it)'
 complete -c swd -n '__fish_seen_subcommand_from target' -l idr -x -d 'IDR of the access port, hexadecimal; else 0'
+complete -c swd -n '__fish_seen_subcommand_from target' -l buffer -d 'The debug port has a write buffer'
 complete -c swd -n '__fish_seen_subcommand_from target' -s h -l help -d 'Print help'
 complete -c swd -n '__fish_seen_subcommand_from probe' -F
 complete -c swd -n '__fish_seen_subcommand_from probe' -l memory -r -F -d 'In place of SCRIPT: FILE has the memory (overwrites it)'
@@ -63,6 +64,7 @@ complete -c swd -n '__fish_seen_subcommand_from probe' -l plan -r -F -d 'Inject 
 complete -c swd -n '__fish_seen_subcommand_from probe' -l log -r -F -d 'Write the log to FILE (overwrites it)'
 complete -c swd -n '__fish_seen_subcommand_from probe' -l trace -r -F -d 'Write the trace to FILE (overwrites it)'
 complete -c swd -n '__fish_seen_subcommand_from probe' -l idr -x -d 'IDR of the access port, hexadecimal; else 0'
+complete -c swd -n '__fish_seen_subcommand_from probe' -l buffer -d 'The debug port has a write buffer'
 complete -c swd -n '__fish_seen_subcommand_from probe' -l size -x -d 'Packet size that the host is told, 64 to 512; else 64'
 complete -c swd -n '__fish_seen_subcommand_from probe' -s h -l help -d 'Print help'
 complete -c swd -n '__fish_seen_subcommand_from draw' -F

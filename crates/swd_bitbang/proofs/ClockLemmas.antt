@@ -3,7 +3,7 @@ use Rattle.std.proofs.Common.{◌≡◌, ℕ, Bool, true, false, List, [], ◌�
 use Rattle.std.proofs.Common.{subst, ◌∙◌}
 use Rattle.std.specs.Prelude.{if◌then◌else◌, is_some, unwrap_or}
 use Rattle.swd_port.specs.Bus.{Bus}
-use Rattle.swd_clocked.specs.Marked.{MarkedCycles}
+use Rattle.swd_clocked.specs.Giving.{BufferedCycles}
 use Rattle.swd_sequences.specs.declared.character.Character.TheVariants.{Moves, Looks, Drives}
 use Rattle.swd_sequences.specs.Alphabet.{alphabet_byte, alphabet_level}
 use Rattle.swd_bitbang.specs.declared.pins.Pins.{Pins}
@@ -121,7 +121,7 @@ pub pins_clock_made : {D A : Type 0} (bus : D → Bus) (drive : Option Bool) (bi
 pins_clock_made bus drive bit s t between h =
     let passes = subst (λ o. PinsShowBy bus o bit (pins_clock_begun drive s) t) between h in
     record {
-      cycle = subst (λ d. MarkedCycles bus d bit s.target t.target) (driven_then drive) passes.cycle;
+      cycle = subst (λ d. BufferedCycles bus d bit s.target t.target) (driven_then drive) passes.cycle;
       trace = passes.trace;
       between = refl;
     }

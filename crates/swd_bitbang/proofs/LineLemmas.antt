@@ -6,7 +6,7 @@ use Rattle.std.specs.Prelude.{if◌then◌else◌, replicate, All}
 use Rattle.std.proofs.lemmas.List.Elements.{All-append, All-nil, All-cons, All-head, All-tail}
 use Rattle.swd_port.specs.Bus.{Bus}
 use Rattle.swd_bits.specs.Bits.{low_bits}
-use Rattle.swd_clocked.specs.Marked.{MarkedCycles}
+use Rattle.swd_clocked.specs.Giving.{BufferedCycles}
 use Rattle.swd_sequences.specs.declared.character.Character.TheVariants.{Moves, Looks, Drives, Quits}
 use Rattle.swd_sequences.specs.declared.sequence.Sequence.{Sequence}
 use Rattle.swd_sequences.specs.declared.sequence.Sequence.TheVariants.{Drive, Hold, Release, Sample}
@@ -67,7 +67,7 @@ answered_next false level rest levels e = e
 record WentOnce {D A : Type 0} (bus : D → Bus) (looks : Bool) (drive : Option Bool) (answers : List ℕ)
     (s t : Pins D A) : Type 0 where
   level : Bool
-  cycle : MarkedCycles bus drive level s.target t.target
+  cycle : BufferedCycles bus drive level s.target t.target
   answers_are : answers ≡ answered looks (level ∷ [])
   between : ArePinsBetweenClocks t
   drives : t.drives ≡ s.drives
@@ -110,7 +110,7 @@ moves {D} {A} bus level d answers s t e between h =
     let same : t ≡ up.0 = up.4.1 in
     let went : WentOnce bus false (if d then Some level else None) answers s up.0 = record {
       level = rise.0;
-      cycle = subst (λ x. MarkedCycles bus x rise.0 s.target up.0.target) (fallen_drive level s d e) bit.cycle;
+      cycle = subst (λ x. BufferedCycles bus x rise.0 s.target up.0.target) (fallen_drive level s d e) bit.cycle;
       answers_are = h.5 ∙ ap (λ l. l ++ h.2) low.1 ∙ up.5 ∙ ap (λ l. l ++ up.2) rise.2 ∙ up.4.0;
       between = subst (λ x. (if x then None else up.0.seen) ≡ None) (sym bit.clock) refl;
       drives = bit.drives;
@@ -135,7 +135,7 @@ looked {D} {A} bus answers s t e between h =
     let first : at.1 ≡ alphabet_level sees.0 ∷ [] = at.3.tells ∙ ap bitbang_answer_to_sign sees.1 in
     let went : WentOnce bus true None answers s (record at.0 { clock = true; level = false }) = record {
       level = sees.0;
-      cycle = subst (λ x. MarkedCycles bus x sees.0 s.target at.0.target) (ap (λ x. if x then Some false else None) e)
+      cycle = subst (λ x. BufferedCycles bus x sees.0 s.target at.0.target) (ap (λ x. if x then Some false else None) e)
           bit.cycle;
       answers_are = h.5 ∙ ap (λ l. l ++ h.2) low.1 ∙ at.5 ∙ ap (λ l. l ++ at.2) first
           ∙ ap (λ l. alphabet_level sees.0 ∷ l) (up.5 ∙ ap (λ l. l ++ up.2) rise.2 ∙ up.4.0);
@@ -150,7 +150,7 @@ looked {D} {A} bus answers s t e between h =
 record WentOn {D A : Type 0} (bus : D → Bus) (looks : Bool) (drives : List (Option Bool)) (answers : List ℕ)
     (s t : Pins D A) : Type 0 where
   levels : List Bool
-  clocks : SequenceClocksGoBy (MarkedCycles bus) drives levels s.target t.target
+  clocks : SequenceClocksGoBy (BufferedCycles bus) drives levels s.target t.target
   answers_are : answers ≡ answered looks levels
   between : ArePinsBetweenClocks t
   keeps : t.drives ≡ s.drives
@@ -314,7 +314,7 @@ pins_read_sequences bus (sequence ∷ more) drives answers s t e between h =
         rest.levels,
         record {
           seen = one.levels;
-          clocks = subst (λ x. SequenceClocksGoBy (MarkedCycles bus) (sequence_drives sequence) one.levels x
+          clocks = subst (λ x. SequenceClocksGoBy (BufferedCycles bus) (sequence_drives sequence) one.levels x
               p.middle.target)
               turn.target one.clocks;
           samples = refl;

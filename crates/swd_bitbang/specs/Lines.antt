@@ -3,7 +3,7 @@
 use Rattle.std.specs.Prelude.{ℕ, ◌≡◌, ◌≢◌, Bool, List, ◌∷◌, ◌++◌, All, map, Option, Some, None, if◌then◌else◌}
 use Rattle.std.specs.Io.KnownBytes.{Appends}
 use Rattle.swd_port.specs.Bus.{Bus}
-use Rattle.swd_clocked.specs.Marked.{MarkedCycles}
+use Rattle.swd_clocked.specs.Giving.{BufferedCycles}
 use Rattle.swd_sequences.specs.declared.character.Character.TheVariants.{Quits}
 use Rattle.swd_sequences.specs.declared.sequence.Sequence.{Sequence}
 use Rattle.swd_sequences.specs.Alphabet.{alphabet_byte, alphabet_character, alphabet_level}
@@ -21,7 +21,7 @@ ArePinsBetweenClocks s = (if s.clock then None else s.seen) ≡ None
 -- One clock between two others: the cycle of the target, in which the host drives this level or none, and the bit on
 -- the line, which the trace keeps.
 pub record PinsClock {D A : Type 0} (bus : D → Bus) (drive : Option Bool) (bit : Bool) (s t : Pins D A) : Type 0 where
-  pub cycle : MarkedCycles bus drive bit s.target t.target
+  pub cycle : BufferedCycles bus drive bit s.target t.target
   pub trace : PinsTraceKeeps bit s.trace t.trace
   pub between : ArePinsBetweenClocks t
 
@@ -30,7 +30,7 @@ pub record PinsClock {D A : Type 0} (bus : D → Bus) (drive : Option Bool) (bit
 pub record PinsWentBy {D A : Type 0} (bus : D → Bus) (sequences : List Sequence) (answers : List ℕ)
     (s t : Pins D A) : Type 0 where
   pub levels : List Bool
-  pub goes : SequencesGoBy (MarkedCycles bus) sequences levels s.target t.target
+  pub goes : SequencesGoBy (BufferedCycles bus) sequences levels s.target t.target
   pub answered : answers ≡ map alphabet_level levels
   pub between : ArePinsBetweenClocks t
 

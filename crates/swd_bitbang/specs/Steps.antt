@@ -2,7 +2,7 @@
 -- project's choice.
 use Rattle.std.specs.Prelude.{◌≡◌, Bool, true, false, Option, Some, None, if◌then◌else◌}
 use Rattle.swd_port.specs.Bus.{Bus}
-use Rattle.swd_clocked.specs.Marked.{MarkedCycles}
+use Rattle.swd_clocked.specs.Giving.{BufferedCycles}
 use Rattle.swd_bitbang.specs.Traces.{PinsTraceKeeps}
 use Rattle.swd_sequences.specs.declared.character.Character.{Character}
 use Rattle.swd_sequences.specs.declared.character.Character.TheVariants.{Moves, Looks, Drives, Quits}
@@ -20,7 +20,7 @@ pins_fallen level s = record s { clock = false; level = level; seen = if s.clock
 
 -- The cycle of this clock, with its bit. It is made once: at the first sample, or when SWCLK rises.
 pub record PinsCyclePasses {D A : Type 0} (bus : D → Bus) (bit : Bool) (s t : Pins D A) : Type 0 where
-  pub cycle : MarkedCycles bus (pins_driven s) bit s.target t.target
+  pub cycle : BufferedCycles bus (pins_driven s) bit s.target t.target
   pub seen : t.seen ≡ Some bit
   pub clock : t.clock ≡ s.clock
   pub level : t.level ≡ s.level

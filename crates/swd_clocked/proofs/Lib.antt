@@ -7,3 +7,4 @@ pub mod Whole
 pub mod Contends
 pub mod FieldsLemmas
 pub mod ElsewhereLemmas
+pub mod GivingUp

@@ -1,9 +1,12 @@
 -- What contracts see of a clocked target. All of it is this project's choice.
-use Rattle.std.specs.Prelude.{ℕ, ◌≡◌, Bool, true, Option, unwrap_or}
+use Rattle.std.specs.Prelude.{ℕ, ◌≡◌, Bool, true, Option, unwrap_or, if◌then◌else◌}
+use Rattle.swd_bits.specs.declared.request.Request.{Request}
+use Rattle.swd_port.specs.declared.mark.Mark.{Mark}
 use Rattle.swd_port.specs.Bus.{Bus}
 use Rattle.swd_port.specs.Port.{Target as State}
 use Rattle.swd_target.specs.declared.quirks.Quirks.{Quirks}
 use Rattle.swd_target.specs.Simulations.{Simulation, simulation_stepped}
+use Rattle.swd_target.specs.Giving.{is_giving_up, state_without_write, simulation_giving}
 use Rattle.swd_target.specs.Elsewhere as elsewhere
 use Rattle.swd_target.specs.Targets as target
 use Rattle.swd_clocked.specs.declared.frame.Frame.{Frame}
@@ -77,6 +80,17 @@ pub record ClockedSettles {D : Type 0} (bus : D → Bus) (s t : Clocked D) : Typ
   pub target : target.TargetCompletes bus s.target t.target
   pub frame : t.frame ≡ s.frame
   pub waits : t.waits ≡ s.waits
+
+-- before a request under a mark the pending write was given up, or not, and nothing else changed
+pub record ClockedGivesUp {D : Type 0} (bus : D → Bus) (mark : Mark) (q : Request) (did : Bool)
+    (s t : Clocked D) : Type 0 where
+  pub gave : did ≡ is_giving_up mark q (clocked_state bus s)
+  pub state : clocked_state bus t ≡ (if did then state_without_write (clocked_state bus s) else clocked_state bus s)
+  pub exact : clocked_simulation bus t ≡ simulation_giving mark q (clocked_simulation bus s)
+  pub device : clocked_device t ≡ clocked_device s
+  pub frame : t.frame ≡ s.frame
+  pub waits : t.waits ≡ s.waits
+  pub counts : CountsNoCycle s t
 
 -- ones passed: they lead to the same line reset
 pub record ClockedRises {D : Type 0} (bus : D → Bus) (s t : Clocked D) : Type 0 where

@@ -5,6 +5,7 @@ pub mod Fields
 pub mod Rests
 pub mod Damage
 pub mod Marked
+pub mod Giving
 pub mod Phases
 pub mod ClockedBenches
 pub mod Spelled

@@ -11,7 +11,7 @@ use crate::frame::Frame;
 use std::alloc::Allocator;
 use std::fmt::{self, Debug, Formatter};
 use swd_bits::{Request, SWITCH};
-use swd_port::{AfterAck, Count, Register, Reply};
+use swd_port::{AfterAck, Count, Mark, Register, Reply};
 use swd_target::port::Target;
 use swd_target::{Device, Memory, Quirks};
 
@@ -60,6 +60,7 @@ impl<D: Device> Clocked<D> {
     ghost use Rattle.swd_clocked.specs.Cycles.{FrameMoved, ClockedRequested, ClockedByteCame, AsksCycle, LostCycle};
     ghost use Rattle.swd_clocked.specs.Cycles.{HeardCycle, ClockedDataCame, Cycles, AwaitsCycle, DrivesCycle};
     ghost use Rattle.swd_clocked.specs.Cycles.{ReplyCycle, SwitchCycle};
+    ghost use Rattle.swd_clocked.specs.Clocks.{ClockedGivesUp};
 
     /// Creates a target before its first line reset, with this device behind its access port. WAIT isn't held, and
     /// DPIDR reads 2ba01477.
@@ -100,6 +101,14 @@ impl<D: Device> Clocked<D> {
         ensures quirks { clocked_quirks self.new ≡ clocked_quirks self.old }
     {
         self.target.complete();
+    }
+
+    // Gives up the pending write, if this request can't wait for it and the target sees it under this mark. Returns
+    // whether it did.
+    pub(crate) fn give_up_before(&mut self, mark: Mark, request: Request) -> bool
+        ensures gives { ClockedGivesUp D.bus mark request result self.old self.new }
+    {
+        self.target.give_up_before(mark, request)
     }
 
     /// Returns the device behind the access port.

@@ -1,6 +1,6 @@
 //! A simulated target, clock by clock, with a plan of fault injections: a target and the wire to it.
 ghost use Rattle.swd_port.specs.PlainBus.{bus_of};
-ghost use Rattle.std.specs.Prelude.{◌≡◌, ◌-◌, ◌+◌, ◌^◌, ◌<◌, is_some, unwrap_or, true, min, IfSome, IfNone};
+ghost use Rattle.std.specs.Prelude.{◌≡◌, ◌-◌, ◌+◌, ◌^◌, ◌<◌, is_some, unwrap_or, true, false, min, IfSome, IfNone};
 ghost use Rattle.swd_bits.specs.declared.request.Request.{Request};
 ghost use Rattle.swd_port.specs.Made.{port_made_target};
 ghost use Rattle.swd_port.specs.declared.mark.Mark.TheVariants.{Clean};
@@ -15,7 +15,7 @@ use crate::clocked::Clocked;
 use crate::frame::Frame;
 use std::alloc::{Allocator, Global};
 use swd_bits::Request;
-use swd_port::Mark;
+use swd_port::{Count, Mark};
 use swd_target::port::Plan;
 use swd_target::{Device, Memory, Quirks};
 
@@ -46,6 +46,10 @@ pub struct FaultyClocked<D, A: Allocator = Global> {
     pub(crate) unseen: u8,
     // The number of requests that used a mark, saturating at 2^64 - 1.
     requests: u64,
+    // Whether its debug port has a write buffer.
+    buffers: bool,
+    // How many writes were given up, for contracts alone.
+    given_up: Count,
     ghost legal: { is_legal_mark mark ≡ true },
     ghost counts: { requests ≡ min (plans.plan_tally plan).asked (2 ^ 64 - 1) },
 }
@@ -78,6 +82,9 @@ impl<D: Device, A: Allocator> FaultyClocked<D, A> {
     ghost use Rattle.swd_clocked.specs.Marked.{marked_clocked_tally, marked_clocked_cycles, marked_clocked_contended};
     ghost use Rattle.swd_clocked.specs.Marked.{MarkedCycles, CycleMeetsMark, CycleMisses, CycleReaches, CycleUsesMark};
     ghost use Rattle.swd_clocked.specs.Marked.{CycleKeepsPlan, marked_clocked_device};
+    ghost use Rattle.swd_clocked.specs.Giving.{has_marked_clocked_buffer, marked_clocked_given_up, CycleKeepsBuffer};
+    ghost use Rattle.swd_clocked.specs.Giving.{RequestGivesUp, LastCycleGivesUp, CycleGivesUp, BufferedCycles};
+    ghost use Rattle.swd_clocked.specs.Giving.{DiffersInBuffer};
 
     /// Creates a target before its first line reset, with this device behind its access port and this plan of marks.
     /// DPIDR reads 2ba01477.
@@ -93,6 +100,8 @@ impl<D: Device, A: Allocator> FaultyClocked<D, A> {
         ensures requests { (marked_clocked_tally result).asked ≡ 0 }
         ensures cycles { marked_clocked_cycles result ≡ 0 }
         ensures contended { marked_clocked_contended result ≡ 0 }
+        ensures unbuffered { has_marked_clocked_buffer result ≡ false }
+        ensures given_up { marked_clocked_given_up result ≡ 0 }
     {
         FaultyClocked {
             clocked: Clocked::new(device, quirks),
@@ -100,7 +109,22 @@ impl<D: Device, A: Allocator> FaultyClocked<D, A> {
             mark: Mark::Clean,
             unseen: 0,
             requests: 0,
+            buffers: false,
+            given_up: Count::new(),
         }
+    }
+
+    /// Returns the target with a debug port that has a write buffer (`buffers`), or has none, as at first.
+    ///
+    /// A port with a buffer gives up a write that it accepted, where it is still pending and a request comes that can't
+    /// wait for it: a read of DPIDR or CTRL/STAT, or a write of ABORT. The write reaches no bus, and WDATAERR is set.
+    /// Only with the quirk `late` a write is pending behind its request.
+    pub fn with_buffer(self, buffers: bool) -> FaultyClocked<D, A>
+        ensures { DiffersInBuffer buffers self result }
+    {
+        let mut target = self;
+        target.buffers = buffers;
+        target
     }
 
     // Consumes the target, and returns its device and all its marks.
@@ -143,10 +167,53 @@ impl<D: Device, A: Allocator> FaultyClocked<D, A> {
     /// where it drives, changed if the mark says so; else the host's own, and 1 where nobody drives.
     #[inline(always)]
     pub fn cycle(&mut self, drive: Option<bool>) -> bool
+        ensures cycles { BufferedCycles D.bus drive result self.old self.new }
+        ensures count { marked_clocked_cycles self.new ≡ cycles_counted 1 (marked_clocked_cycles self.old) }
+        ensures contended { marked_clocked_contended self.new ≡ marked_clocked_contended self.old
+            + contended_cycle (marked_clocked_frame self.old) (is_some drive) }
+    {
+        self.give_up_in_time(drive);
+        self.cycle_now(drive)
+    }
+
+    // Gives up the pending write, if this cycle is the last one of a request that can't wait for it.
+    #[inline(always)]
+    fn give_up_in_time(&mut self, drive: Option<bool>)
+        ensures { CycleGivesUp D.bus drive self.old self.new }
+    {
+        if self.buffers && self.unseen == 0 {
+            self.give_up_at_last(drive.unwrap_or(true));
+        }
+    }
+
+    // The same in a cycle with this bit.
+    #[inline(never)]
+    fn give_up_at_last(&mut self, bit: bool)
+        ensures { LastCycleGivesUp D.bus bit self.old self.new }
+    {
+        if let Some(request) = self.last_of(bit) {
+            self.give_up_before(request);
+        }
+    }
+
+    // Gives up the pending write, if this request can't wait for it and the target is to see it.
+    fn give_up_before(&mut self, request: Request)
+        ensures { RequestGivesUp D.bus (plans.plan_next_mark self.old.plan) request self.old self.new }
+    {
+        let mark = self.plan.next_mark();
+        if self.clocked.give_up_before(mark, request) {
+            self.given_up.tick();
+        }
+    }
+
+    // The same as `cycle` of a target without a write buffer.
+    #[inline(always)]
+    pub(crate) fn cycle_now(&mut self, drive: Option<bool>) -> bool
         ensures cycles { MarkedCycles D.bus drive result self.old self.new }
         ensures count { marked_clocked_cycles self.new ≡ cycles_counted 1 (marked_clocked_cycles self.old) }
         ensures contended { marked_clocked_contended self.new ≡ marked_clocked_contended self.old
             + contended_cycle (marked_clocked_frame self.old) (is_some drive) }
+        ensures buffer { CycleKeepsBuffer self.old self.new }
     {
         if self.unseen > 0 {
             return self.miss(self.unseen - 1, drive);
@@ -176,6 +243,7 @@ impl<D: Device, A: Allocator> FaultyClocked<D, A> {
         ensures count { marked_clocked_cycles self.new ≡ cycles_counted 1 (marked_clocked_cycles self.old) }
         ensures contended { marked_clocked_contended self.new ≡ marked_clocked_contended self.old
             + contended_cycle (marked_clocked_frame self.old) (is_some drive) }
+        ensures buffer { CycleKeepsBuffer self.old self.new }
     {
         self.use_mark();
         if is_deaf(self.mark) {
@@ -189,6 +257,7 @@ impl<D: Device, A: Allocator> FaultyClocked<D, A> {
         ensures uses { CycleUsesMark self.new.mark self.old.plan self.new.plan }
         ensures clocked { self.new.clocked ≡ self.old.clocked }
         ensures unseen { self.new.unseen ≡ self.old.unseen }
+        ensures buffer { CycleKeepsBuffer self.old self.new }
     {
         self.mark = self.plan.use_mark();
         self.requests = self.requests.saturating_add(1);
@@ -202,6 +271,7 @@ impl<D: Device, A: Allocator> FaultyClocked<D, A> {
         ensures count { marked_clocked_cycles self.new ≡ cycles_counted 1 (marked_clocked_cycles self.old) }
         ensures contended { marked_clocked_contended self.new ≡ marked_clocked_contended self.old
             + contended_cycle (marked_clocked_frame self.old) (is_some drive) }
+        ensures buffer { CycleKeepsBuffer self.old self.new }
     {
         self.unseen = more;
         self.clocked.miss(drive.is_some());
@@ -217,6 +287,7 @@ impl<D: Device, A: Allocator> FaultyClocked<D, A> {
         ensures count { marked_clocked_cycles self.new ≡ cycles_counted 1 (marked_clocked_cycles self.old) }
         ensures contended { marked_clocked_contended self.new ≡ marked_clocked_contended self.old
             + contended_cycle (marked_clocked_frame self.old) (is_some drive) }
+        ensures buffer { CycleKeepsBuffer self.old self.new }
     {
         let change = self.is_changed(drive.is_some());
         let bit = turned(change, drive.unwrap_or(true));
@@ -242,6 +313,7 @@ impl<D: Device, A: Allocator> FaultyClocked<D, A> {
         ensures unseen { marked_clocked_unseen self.new ≡ marked_clocked_unseen self.old }
         ensures cycles { marked_clocked_cycles self.new ≡ marked_clocked_cycles self.old }
         ensures contended { marked_clocked_contended self.new ≡ marked_clocked_contended self.old }
+        ensures buffer { CycleKeepsBuffer self.old self.new }
     {
         self.clocked.settle();
     }

@@ -27,10 +27,10 @@ impl<D: Device, A: Allocator> FaultyClocked<D, A> {
         let bits = request.bits();
         let mut rest = bits;
         for place in 0..7u8 {
-            let _ = self.cycle(Some(rest % 2 == 1));
+            let _ = self.cycle_now(Some(rest % 2 == 1));
             rest /= 2;
         }
-        let _ = self.cycle(Some(rest % 2 == 1));
+        let _ = self.cycle_now(Some(rest % 2 == 1));
     }
 
     // Returns the three bits of a reply after its turnaround, the first in time least significant.
@@ -39,10 +39,10 @@ impl<D: Device, A: Allocator> FaultyClocked<D, A> {
         ensures sees { CyclesSeeReply result self.old self.new }
         ensures clocks { CountsCycles 4 self.old.clocked self.new.clocked }
     {
-        let _ = self.cycle(None); // the turnaround after a request
-        let first = self.cycle(None);
-        let second = self.cycle(None);
-        let third = self.cycle(None);
+        let _ = self.cycle_now(None); // the turnaround after a request
+        let first = self.cycle_now(None);
+        let second = self.cycle_now(None);
+        let third = self.cycle_now(None);
         u8::from(first) + 2 * u8::from(second) + 4 * u8::from(third)
     }
 
@@ -70,10 +70,10 @@ impl<D: Device, A: Allocator> FaultyClocked<D, A> {
     {
         let mut bits = 0u64;
         for place in 0..33u8 {
-            let bit = self.cycle(None);
+            let bit = self.cycle_now(None);
             bits = bits / 2 + u64::from(bit) * 0x1_0000_0000;
         }
-        let _ = self.cycle(None); // the turnaround after a read's data
+        let _ = self.cycle_now(None); // the turnaround after a read's data
         bits
     }
 
@@ -88,12 +88,12 @@ impl<D: Device, A: Allocator> FaultyClocked<D, A> {
         ensures clocks { CountsCycles 34 self.old.clocked self.new.clocked }
     {
         let mut rest = bits;
-        let _ = self.cycle(None); // the turnaround before a write's data
+        let _ = self.cycle_now(None); // the turnaround before a write's data
         for place in 0..32u8 {
-            let _ = self.cycle(Some(rest % 2 == 1));
+            let _ = self.cycle_now(Some(rest % 2 == 1));
             rest /= 2;
         }
-        let _ = self.cycle(Some(rest % 2 == 1));
+        let _ = self.cycle_now(Some(rest % 2 == 1));
     }
 
     // Passes the turnaround after WAIT or FAULT.
@@ -103,7 +103,7 @@ impl<D: Device, A: Allocator> FaultyClocked<D, A> {
         ensures goes { CyclesMoveFrame idle_frame self.old self.new }
         ensures clocks { CountsCycles 1 self.old.clocked self.new.clocked }
     {
-        let _ = self.cycle(None); // the turnaround after WAIT or FAULT
+        let _ = self.cycle_now(None); // the turnaround after WAIT or FAULT
     }
 
     // Sends a line reset, with the switch or without. The first `undriven` ones are left undriven, among them those in
@@ -153,7 +153,7 @@ impl<D: Device, A: Allocator> FaultyClocked<D, A> {
         ensures leads { CyclesLeadToReset D.bus self.old self.new }
         ensures clocks { CountsCycles 1 self.old.clocked self.new.clocked }
     {
-        let _ = self.cycle(drive);
+        let _ = self.cycle_now(drive);
     }
 
     // Sends the sixteen bits of the switch.
@@ -164,7 +164,7 @@ impl<D: Device, A: Allocator> FaultyClocked<D, A> {
         ensures clocks { CountsCycles 16 self.old.clocked self.new.clocked }
     {
         for place in 0..SWITCH_BITS {
-            let _ = self.cycle(Some(SWITCH >> place & 1 == 1));
+            let _ = self.cycle_now(Some(SWITCH >> place & 1 == 1));
         }
     }
 
@@ -190,6 +190,6 @@ impl<D: Device, A: Allocator> FaultyClocked<D, A> {
         ensures goes { CyclesMoveFrame (marked_clocked_frame self.new) self.old self.new }
         ensures clocks { CountsCycles 1 self.old.clocked self.new.clocked }
     {
-        let _ = self.cycle(Some(false));
+        let _ = self.cycle_now(Some(false));
     }
 }

@@ -22,7 +22,7 @@ pub enum CommandLine {
     /// `swd run SCRIPT [--plan FILE]` or `swd run SCRIPT --remote[=IN,OUT] --report FILE [--check]`. Both take
     /// `[--tries N] [--resume N] [--trace FILE] [--accesses FILE] [--strict] [--progress]` too.
     Run(RunLine),
-    /// `swd target MEMORY [--plan FILE] [--log FILE] [--trace FILE] [--idr WORD]`. MEMORY is SCRIPT or
+    /// `swd target MEMORY [--plan FILE] [--log FILE] [--trace FILE] [--idr WORD] [--buffer]`. MEMORY is SCRIPT or
     /// `--memory FILE [--base ADDR]`. `swd probe` takes the same, and `[--size N]`.
     Target(TargetLine),
     /// `swd info --remote[=IN,OUT] [--tries N]`.
@@ -179,6 +179,8 @@ pub struct TargetLine {
     pub trace: Option<String>,
     /// IDR of the access port, if it has one.
     pub idr: Option<u32>,
+    /// Whether the debug port has a write buffer.
+    pub buffers: bool,
     /// The size of packets of CMSIS-DAP that the host is told, 64 to 512 bytes. `None` for a host of remote_bitbang.
     pub packet_size: Option<u32>,
 }

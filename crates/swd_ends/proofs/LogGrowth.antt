@@ -38,6 +38,7 @@ use Rattle.swd_clocked.specs.Cycles.{FrameMoved, ClockedByteCame, AsksCycle, Los
 use Rattle.swd_clocked.specs.Cycles.{DrivesCycle, AwaitsCycle, Cycles}
 use Rattle.swd_clocked.specs.Damage.{IsLastRequestCycle}
 use Rattle.swd_clocked.specs.Marked as marked
+use Rattle.swd_clocked.specs.Giving.{BufferedCycles}
 use Rattle.swd_sequences.specs.declared.character.Character.{Character}
 use Rattle.swd_sequences.specs.declared.character.Character.TheVariants.{Moves, Looks, Drives as Turns, Quits}
 use Rattle.swd_bitbang.specs.declared.trace.Trace.{Trace}
@@ -395,6 +396,17 @@ marked_grows bus drive answer s t sound h = elim (cases_lt 0 s.unseen)
           ]
     ]
 
+-- the same where a write may be given up before the cycle, which changes neither log nor frame
+buffered_grows : {D A : Type 0} (bus : D → Bus) (drive : Option Bool) (answer : Bool) (s t : FaultyClocked D A)
+    → IsLiveFrameSound s.clocked.frame → BufferedCycles bus drive answer s t → After bus s.clocked.target t.clocked
+buffered_grows bus drive answer s t sound h =
+    let alone = h.gives.alone in
+    let after = marked_grows bus drive answer h.before t (subst IsLiveFrameSound (sym alone.frame) sound) h.cycles in
+    record {
+      grows = subst (λ d. LiveLogGrows (bus d).log (bus t.clocked.target.device).log) alone.device after.grows;
+      sound = after.sound;
+    }
+
 -- THE PINS
 
 -- the log and the trace at later pins, and their frame
@@ -428,7 +440,7 @@ shown : {D A : Type 0} (bus : D → Bus) (seen : Option Bool) (bit : Bool) (s t 
 shown bus (Some b) bit s t sound h =
     unchanged bus s t sound (ap (λ (x : Pins _ _). x.target) h.1) (ap (λ (x : Pins _ _). x.trace) h.1)
 shown bus None bit s t sound h =
-    let after = marked_grows bus (pins_driven s) bit s.target t.target sound h.cycle in
+    let after = buffered_grows bus (pins_driven s) bit s.target t.target sound h.cycle in
     record {
       log = after.grows;
       trace = trace_on s.trace.wanted s.trace.cut bit s.trace t.trace refl refl h.trace;

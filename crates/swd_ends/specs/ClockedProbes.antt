@@ -5,8 +5,8 @@ use Rattle.swd_bits.specs.Bits.{low_bits, bits_number}
 use Rattle.swd_port.specs.declared.outside.Disconnected.{Disconnected}
 use Rattle.swd_clocked.specs.declared.marked.FaultyClocked.{FaultyClocked}
 use Rattle.swd_clocked.specs.Frames.{cycles_counted, contended_cycle}
-use Rattle.swd_clocked.specs.Marked.{MarkedCycles, marked_clocked_frame, marked_clocked_cycles}
-use Rattle.swd_clocked.specs.Marked.{marked_clocked_contended}
+use Rattle.swd_clocked.specs.Marked.{marked_clocked_frame, marked_clocked_cycles, marked_clocked_contended}
+use Rattle.swd_clocked.specs.Giving.{BufferedCycles}
 use Rattle.swd_sequences.specs.declared.sequence.Sequence.{Sequence}
 use Rattle.swd_sequences.specs.declared.sequence.Sequence.TheVariants.{Sample}
 use Rattle.swd_sequences.specs.Clocks.{sequence_drives}
@@ -16,7 +16,7 @@ use Rattle.swd_ends.specs.declared.clocked_probe.ClockedProbe.{ClockedProbe}
 -- one cycle of the target: the bit that the host drives, if any, and the level that it sees
 pub record ClockedProbeCycle {D A : Type 0} (bus : D → Bus) (drive : Option Bool) (level : Bool)
     (s t : FaultyClocked D A) : Type 0 where
-  pub cycle : MarkedCycles bus drive level s t
+  pub cycle : BufferedCycles bus drive level s t
   pub cycles : marked_clocked_cycles t ≡ cycles_counted 1 (marked_clocked_cycles s)
   pub contended : marked_clocked_contended t ≡ marked_clocked_contended s
       + contended_cycle (marked_clocked_frame s) (is_some drive)

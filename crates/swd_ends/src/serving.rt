@@ -26,24 +26,31 @@ pub enum TargetFault {
 }
 
 /// Returns the pins of a simulated target with this device and a plan of these marks, before the host moved any. The
-/// target's choices are those of `swd run`, but for its IDR. The pins record in `trace`.
+/// target's choices are those of `swd run`, but for its IDR. With a write buffer (`buffers`) its transfers take effect
+/// as late as allowed, so that a write is pending. The pins record in `trace`.
 pub fn target_pins<D: Device, A: Allocator>(
     device: D,
     plan: Vec<Mark, A>,
     idr: Option<u32>,
+    buffers: bool,
     trace: Trace<A>,
 ) -> Pins<D, A>
     requires { IsLegalPlan plan.items }
-    ensures made { IsTargetEndMade D.bus (D.bus device) plan.items idr result.target }
+    ensures made { IsTargetEndMade D.bus (D.bus device) plan.items idr buffers result.target }
     ensures rests { AreTargetEndPinsAtRest trace result }
 {
-    let quirks = Quirks { idr, ..QUIRKS };
-    Pins::new(FaultyClocked::new(device, quirks, plan), trace)
+    let quirks = Quirks {
+        idr,
+        late: buffers,
+        ..QUIRKS
+    };
+    let target = FaultyClocked::new(device, quirks, plan);
+    Pins::new(target.with_buffer(buffers), trace)
 }
 
 /// Reads a script and a plan, and returns the pins of the simulated target that they describe, before the host moved
 /// any. The target has the script's device (`swd_run::device_of`), its requests use the plan's marks, and it has this
-/// IDR or none. The pins record in `trace`.
+/// IDR or none, and a write buffer or none (`buffers`). The pins record in `trace`.
 ///
 /// # Errors
 ///
@@ -54,10 +61,11 @@ pub fn read_target<S: Read, P: Read, A: Allocator + Copy>(
     script: &mut S,
     plan: &mut P,
     idr: Option<u32>,
+    buffers: bool,
     trace: Trace<A>,
 ) -> Result<Pins<ScriptDevice<A>, A>, TargetFault>
     ensures made { IfOk result (λ pins.
-        SimulatesTargetEnd (S.remaining script.old) (P.remaining plan.old) idr trace pins) }
+        SimulatesTargetEnd (S.remaining script.old) (P.remaining plan.old) idr buffers trace pins) }
     ensures fault { IfErr result (λ fault. IsTargetEndFault fault (S.remaining script.old) (P.remaining plan.old)) }
 {
     let Texts { script, plan } = match read_texts(alloc, script, plan) {
@@ -70,7 +78,7 @@ pub fn read_target<S: Read, P: Read, A: Allocator + Copy>(
     let Some(device) = device_of(alloc, &script) else {
         return Err(TargetFault::Memory);
     };
-    Ok(target_pins(device, plan, idr, trace))
+    Ok(target_pins(device, plan, idr, buffers, trace))
 }
 
 // Returns whether there is exactly one call, without accesses.

@@ -12,7 +12,14 @@ pub fn serve_script(
     levels: &mut Vec<u8>,
 ) -> Result<Option<Vec<u8>>, TargetFault> {
     let mut plan: &[u8] = b"";
-    let pins = read_target(alloc, &mut script, &mut plan, None, Trace::none(alloc))?;
+    let pins = read_target(
+        alloc,
+        &mut script,
+        &mut plan,
+        None,
+        false,
+        Trace::none(alloc),
+    )?;
     let log = Some(Vec::new(alloc));
     let (_, _, files) = serve_logged(&mut characters, levels, pins, log, None);
     if !files.are_whole() {

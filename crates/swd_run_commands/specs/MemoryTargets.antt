@@ -25,14 +25,14 @@ use Rattle.swd_run_commands.specs.Targets.{IsServedCommandStatus, IsSessionWhole
 abbrev pub target_command_room : ℕ → ℕ
 target_command_room words = min (16 * words + 65536) (2 ^ 32 - 1 - words)
 
--- The pins before the host moved any. Their target has the marks of a plan, this IDR or none, and the words of these
--- bytes from an address on, no other word, and the room of a session.
+-- The pins before the host moved any. Their target has the marks of a plan, this IDR or none, a write buffer or none,
+-- and the words of these bytes from an address on, no other word, and the room of a session.
 pub record TargetCommandHasBytes {A : Type 0} (base : ℕ) (bytes : List ℕ) (marks : List Mark) (idr : Option ℕ)
-    (trace : Trace A) (pins : Pins PlainMemory A) : Type 0 where
+    (buffers : Bool) (trace : Trace A) (pins : Pins PlainMemory A) : Type 0 where
   pub memory : PlainMemory
   pub words : memory.words ≡ target_words_from base (image_end_words_in bytes)
   pub room : ImageEndHasRoom (length bytes / 4) (target_command_room (length bytes / 4)) memory
-  pub made : IsTargetEndMade bus_of (bus_of memory) marks idr pins.target
+  pub made : IsTargetEndMade bus_of (bus_of memory) marks idr buffers pins.target
   pub rests : AreTargetEndPinsAtRest trace pins
 
 -- the status of a session, or that of an error in writing the memory back
@@ -53,14 +53,15 @@ pub record TargetCommandServes {A : Type 0} (packets : Option ℕ) (s : Pins Pla
       file_new
   pub is : IsTargetCommandStatus served (IsSessionWhole cut after) wrote status
 
-module _ (A : Type 0) (status : ℕ) (text left old new : Option (List ℕ)) (idr packets : Option ℕ)
+module _ (A : Type 0) (status : ℕ) (text left old new : Option (List ℕ)) (idr : Option ℕ) (buffers : Bool)
+    (packets : Option ℕ)
   where
     -- Nothing was written, or a host was served at the target that has these bytes, and the memory written to a file.
     -- Only tests show that it is the memory's.
     abbrev pub ServesBytes : ℕ → List ℕ → List Mark → Type 0
     ServesBytes base bytes marks =
         CommandNotOpened status old new
-        ⊎ ((s : Pins PlainMemory A) × (trace : Trace A) × TargetCommandHasBytes base bytes marks idr trace s
+        ⊎ ((s : Pins PlainMemory A) × (trace : Trace A) × TargetCommandHasBytes base bytes marks idr buffers trace s
         × (file_old : Option (List ℕ))
         × (file_new : Option (List ℕ))
         × TargetCommandServes packets s base (length bytes) status text left old new file_old file_new)
@@ -78,5 +79,5 @@ module _ (A : Type 0) (status : ℕ) (text left old new : Option (List ℕ)) (id
     abbrev pub CommandServesTarget : ServedMemory → Type 0
     CommandServesTarget (Script texts) =
         (script : Option (List ℕ)) × (plan : Option (List ℕ))
-        × TargetCommandServesHost A status script plan idr packets text left old new
+        × TargetCommandServesHost A status script plan idr buffers packets text left old new
     CommandServesTarget (File memory) = (ram : Option (List ℕ)) × ServesMemory memory ram

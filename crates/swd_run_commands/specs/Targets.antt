@@ -35,14 +35,14 @@ ServesHost {D} {A} bus (Some size) served cut text left old new s t =
     × (t ≡ packets_pins after) × (cut ≡ is_packet_cut_off after)
 
 -- Nothing was written, or a host was served at the pins of the target of the script, under the plan, with this IDR or
--- none.
-abbrev pub TargetCommandServesHost : (A : Type 0) → ℕ → Option (List ℕ) → Option (List ℕ) → Option ℕ → Option ℕ
-    → Option (List ℕ) → Option (List ℕ) → Option (List ℕ) → Option (List ℕ) → Type 0
-TargetCommandServesHost A status script plan idr packets text left old new =
+-- none, and a write buffer or none.
+abbrev pub TargetCommandServesHost : (A : Type 0) → ℕ → Option (List ℕ) → Option (List ℕ) → Option ℕ → Bool
+    → Option ℕ → Option (List ℕ) → Option (List ℕ) → Option (List ℕ) → Option (List ℕ) → Type 0
+TargetCommandServesHost A status script plan idr buffers packets text left old new =
     CommandNotOpened status old new
     ⊎ ((served : Served) × (cut : Bool) × (trace : Trace A) × (s : Pins (ScriptDevice A) A)
     × (t : Pins (ScriptDevice A) A)
     × SimulatesTargetEnd
-    script plan idr trace s
+    script plan idr buffers trace s
     × ServesHost script_device_bus packets served cut text left old new s t
     × IsServedCommandStatus served (IsSessionWhole cut t) status)

@@ -37,7 +37,8 @@ pub(crate) fn perform_memory_target<
     console: &mut Console<'_, A, F, C, E>,
 ) -> u8
     ensures { (ram : Option (List ℕ)) × ServesMemory A result (I.remaining input.old) (I.remaining input.new)
-        (O.contents output.old) (O.contents output.new) target.now.idr target.now.packet_size memory.now ram }
+        (O.contents output.old) (O.contents output.new) target.now.idr target.now.buffers
+        target.now.packet_size memory.now ram }
 {
     let mut in_use = InUse::new(StreamsInUse::Both);
     match read_target_files(memory, &mut in_use, console) {
@@ -73,8 +74,8 @@ fn serve_held<
 ) -> u8
     requires { IsLegalPlan held.marks.items }
     ensures { ServesBytes A result (I.remaining input.old) (I.remaining input.new) (O.contents output.old)
-        (O.contents output.new) target.now.idr target.now.packet_size held.entry.memory.now.base held.entry.bytes.items
-        held.entry.marks.items }
+        (O.contents output.new) target.now.idr target.now.buffers target.now.packet_size held.entry.memory.now.base
+        held.entry.bytes.items held.entry.marks.items }
 {
     let HeldMemory {
         memory,
@@ -100,7 +101,7 @@ fn serve_held<
         return status;
     }
     let trace = files.empty_trace(console.alloc);
-    let pins = target_pins(words, marks, target.idr, trace);
+    let pins = target_pins(words, marks, target.idr, target.buffers, trace);
     let back = MemoryFile {
         memory,
         count: slice.len() as u64,

@@ -32,7 +32,7 @@ pub fn perform_target<
     E: Write,
 >(target: &TargetLine, input: &mut I, output: &mut O, console: &mut Console<'_, A, F, C, E>) -> u8
     ensures { CommandServesTarget A result (I.remaining input.old) (I.remaining input.new) (O.contents output.old)
-        (O.contents output.new) target.now.idr target.now.packet_size target.now.memory }
+        (O.contents output.new) target.now.idr target.now.buffers target.now.packet_size target.now.memory }
 {
     match &target.memory {
         ServedMemory::Script(texts) => perform_script_target(target, texts, input, output, console),
@@ -63,7 +63,7 @@ fn perform_script_target<
     console: &mut Console<'_, A, F, C, E>,
 ) -> u8
     ensures { (script : Option (List ℕ)) × (plan : Option (List ℕ)) × TargetCommandServesHost A result script plan
-        target.now.idr target.now.packet_size (I.remaining input.old) (I.remaining input.new)
+        target.now.idr target.now.buffers target.now.packet_size (I.remaining input.old) (I.remaining input.new)
         (O.contents output.old) (O.contents output.new) }
 {
     let name = texts.script.as_str();
@@ -108,7 +108,7 @@ fn serve_under<
     console: &mut Console<'_, A, F, C, E>,
 ) -> u8
     ensures { TargetCommandServesHost A result (S.remaining texts.entry.script.reader)
-        (P.remaining texts.entry.plan.reader) target.now.idr target.now.packet_size
+        (P.remaining texts.entry.plan.reader) target.now.idr target.now.buffers target.now.packet_size
         (I.remaining input.old) (I.remaining input.new) (O.contents output.old) (O.contents output.new) }
 {
     let TargetTexts {
@@ -121,7 +121,8 @@ fn serve_under<
         Err(status) => return status,
     };
     let kept = files.empty_trace(console.alloc);
-    match read_target(console.alloc, &mut script, &mut plan, target.idr, kept) {
+    let (idr, buffers) = (target.idr, target.buffers);
+    match read_target(console.alloc, &mut script, &mut plan, idr, buffers, kept) {
         Ok(pins) => {
             if let Err(status) = cut_off_session(target, &files, console) {
                 return status;

@@ -38,7 +38,7 @@ exempt_okay : (mark : Mark) (r : Register) (reset : Reset) (sticky write unpower
 exempt_okay mark r reset sticky write unpowered hears exempt answers = grind arith
 
 -- the pending write is given up before a request of which the target says so
-pub target_gives_up : (mark : Mark) (q : Request) (l : PortLink) (n : PortTally) (s t : State)
+target_gives_up : (mark : Mark) (q : Request) (l : PortLink) (n : PortTally) (s t : State)
     → is_giving_up mark q s ≡ true → t ≡ state_without_write s
     → PortKeepsOrGivesUp mark q (target_port_at l n s) (target_port_at l (tally_given true n) t)
 target_gives_up mark q l n s t gives after =
@@ -53,6 +53,13 @@ target_gives_up mark q l n s t gives after =
       write = first_set _ _ at;
       after = ap (target_port_at l (tally_given true n)) after;
     })
+
+-- a target keeps the pending write, or gives it up where it says so
+pub target_keeps_or_gives_up : (gave : Bool) (mark : Mark) (q : Request) (l : PortLink) (n : PortTally) (s t : State)
+    → gave ≡ is_giving_up mark q s → t ≡ (if gave then state_without_write s else s)
+    → PortKeepsOrGivesUp mark q (target_port_at l n s) (target_port_at l (tally_given gave n) t)
+target_keeps_or_gives_up true mark q l n s t gives after = target_gives_up mark q l n s t (sym gives) after
+target_keeps_or_gives_up false mark q l n s t gives after = inl (ap (target_port_at l n) after)
 
 -- a request after what was given up before it is a step of the port machine
 pub asks_after_giving : (mark : Mark) (q : Request) (seen : ℕ) (s d t : Port) → PortKeepsOrGivesUp mark q s d

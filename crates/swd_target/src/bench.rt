@@ -56,7 +56,7 @@ impl<D: Device, A: Allocator> Bench<D, A> {
     ghost use Rattle.swd_target.specs.Benches.{bench_choice, bench_next_mark};
     ghost use Rattle.swd_target.specs.Targets.{target_state};
     ghost use Rattle.swd_target.specs.Requests.{target_port_at, TargetAsksUnder};
-    ghost use Rattle.swd_target.specs.Giving.{is_giving_up, simulation_giving, tally_given};
+    ghost use Rattle.swd_target.specs.Giving.{simulation_giving, tally_given};
     ghost use Rattle.swd_target.specs.Stepping.{simulation_led, simulation_given, simulation_seen_at_cue};
     ghost use Rattle.swd_target.specs.Stepping.{simulation_after_cue, simulation_link_at_cue};
 
@@ -117,22 +117,7 @@ impl<D: Device, A: Allocator> Bench<D, A> {
         ensures tally { bench_tally self.new ≡ bench_tally self.old }
         ensures plan { bench_plan self.new ≡ bench_plan self.old }
     {
-        if self.is_giving_up(request) {
-            self.target.give_up();
-            return true;
-        }
-        false
-    }
-
-    // Returns whether the next request gives the pending write up.
-    fn is_giving_up(&self, request: Request) -> bool
-        ensures { result ≡ is_giving_up (bench_next_mark self.now) request (target_state D.bus self.now.target) }
-    {
-        let register = Register::named(self.target.select, request);
-        match self.plan.next_mark() {
-            Mark::Deaf => false,
-            _ => self.target.is_giving_up(register),
-        }
+        self.target.give_up_before(self.plan.next_mark(), request)
     }
 
     // Performs a request under the next mark.

@@ -72,8 +72,8 @@ impl<A: Allocator> Plan<A> {
         mark
     }
 
-    // Returns the mark of the next request.
-    pub(crate) fn next_mark(&self) -> Mark
+    /// Returns the mark of the next request.
+    pub fn next_mark(&self) -> Mark
         ensures mark { result ≡ plan_next_mark self.now }
         ensures legal { IsPortMark result }
     {

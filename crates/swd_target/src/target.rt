@@ -1,5 +1,5 @@
 //! The target behind a wire: a debug port with one memory access port.
-ghost use Rattle.std.specs.Prelude.{◌≡◌, ◌&&◌, ◌||◌, not, true, false};
+ghost use Rattle.std.specs.Prelude.{◌≡◌, ◌&&◌, ◌||◌, not, true, false, if◌then◌else◌};
 ghost use Rattle.swd_port.specs.Made.{port_made_target};
 ghost use Rattle.swd_port.specs.PlainBus.{bus_of};
 ghost use Rattle.swd_port.specs.declared.state.Reset.TheVariants.{Fresh};
@@ -27,7 +27,7 @@ use bitflags::Flags;
 use std::alloc::Allocator;
 use std::fmt::{self, Debug, Formatter};
 use swd_bits::{Reg4, Request};
-use swd_port::{Abort, Access, Csw, CtrlStat, Drw, PowerUp, Register, Reply, Reset, Select};
+use swd_port::{Abort, Access, Csw, CtrlStat, Drw, Mark, PowerUp, Register, Reply, Reset, Select};
 
 // The word that DPIDR reads.
 const IDENTIFICATION: u32 = 0x2ba0_1477;
@@ -515,7 +515,7 @@ impl<D: Device> Target<D> {
 // error.
 impl<D: Device> Target<D> {
     ghost use Rattle.swd_target.specs.Targets.{target_state, target_simulation, TargetFails, target_settles_first};
-    ghost use Rattle.swd_target.specs.Giving.{is_giving_up_at, state_without_write};
+    ghost use Rattle.swd_target.specs.Giving.{is_giving_up, is_giving_up_at, state_without_write, simulation_giving};
     ghost use Rattle.swd_target.specs.Requests.{TargetTransfers};
 
     // Returns the content of a register whose value is unknown.
@@ -547,25 +547,44 @@ impl<D: Device> Target<D> {
         }
     }
 
-    // Returns whether the pending write would be given up before this request, if the target sees it.
-    pub(crate) fn is_giving_up(&self, register: Register) -> bool
+    /// Gives up the pending write, if this request can't wait for it and the target sees it under this mark: the write
+    /// reaches no bus, and WDATAERR is set. Returns whether it did.
+    pub fn give_up_before(&mut self, mark: Mark, request: Request) -> bool
+        ensures gave { result ≡ is_giving_up mark request (target_state D.bus self.old) }
+        ensures state { target_state D.bus self.new ≡ (if result then
+            state_without_write (target_state D.bus self.old) else target_state D.bus self.old) }
+        ensures exact { target_simulation D.bus self.new
+            ≡ simulation_giving mark request (target_simulation D.bus self.old) }
+        ensures rest { self.new
+            ≡ record self.old { write_error = self.new.write_error; pending = self.new.pending } }
+    {
+        let gives = self.is_giving_up(mark, request);
+        if gives {
+            self.write_error = true;
+            self.pending = None;
+        }
+        gives
+    }
+
+    // Returns whether the pending write is given up before this request under this mark.
+    fn is_giving_up(&self, mark: Mark, request: Request) -> bool
+        ensures { result ≡ is_giving_up mark request (target_state D.bus self.now) }
+    {
+        let register = Register::named(self.select, request);
+        match mark {
+            Mark::Deaf => false,
+            _ => self.is_giving_up_at(register),
+        }
+    }
+
+    // Returns whether the pending write is given up before a request for this register, if the target sees it.
+    fn is_giving_up_at(&self, register: Register) -> bool
         ensures { result ≡ is_giving_up_at register (target_state D.bus self.now) }
     {
         match self.pending {
             Some(Drw::Writes(_)) => register.is_exempt() && self.is_answering(register),
             Some(Drw::Reads) | None => false,
         }
-    }
-
-    // Gives up the pending write: it reaches no bus, and WDATAERR is set.
-    pub(crate) fn give_up(&mut self)
-        ensures state { target_state D.bus self.new ≡ state_without_write (target_state D.bus self.old) }
-        ensures exact { target_simulation D.bus self.new ≡ record (target_simulation D.bus self.old) {
-          state = state_without_write (target_simulation D.bus self.old).state;
-        } }
-    {
-        self.write_error = true;
-        self.pending = None;
     }
 
     // Returns whether the pending transfer would be a bus error.

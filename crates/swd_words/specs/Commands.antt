@@ -98,7 +98,8 @@ run_rules = place_rule (codes "SCRIPT") true ∷ value_rule (codes "plan") ∷ t
 -- with the script of a target, in place of which there may be --memory
 abbrev pub target_rules : List Rule
 target_rules = place_rule (codes "SCRIPT") false ∷ value_rule (codes "memory") ∷ value_rule (codes "base")
-    ∷ value_rule (codes "plan") ∷ value_rule (codes "log") ∷ value_rule (codes "trace") ∷ value_rule (codes "idr") ∷ []
+    ∷ value_rule (codes "plan") ∷ value_rule (codes "log") ∷ value_rule (codes "trace") ∷ value_rule (codes "idr")
+    ∷ flag_rule (codes "buffer") ∷ []
 
 -- the same, and the most bytes of a packet
 abbrev pub probe_rules : List Rule
@@ -322,12 +323,13 @@ abbrev pub IsIdrArgument : Option ℕ → Option Text → Type 0
 IsIdrArgument None text = text ≡ None
 IsIdrArgument (Some idr) text = Some idr ≡ option_and_then (λ text. script_hex_number text) text
 
--- the memory, the log, the trace and the IDR that the arguments name
+-- the memory, the log, the trace and the IDR that the arguments name, and whether the port has a write buffer
 pub record AreTargetArguments (target : TargetLine) (rows : List Row) : Type 0 where
   pub memory : AreServedArguments target.memory rows
   pub log : option_map string_bytes target.log ≡ first_of (codes "log") rows
   pub trace : option_map string_bytes target.trace ≡ first_of (codes "trace") rows
   pub idr : IsIdrArgument target.idr (first_of (codes "idr") rows)
+  pub buffers : (target.buffers ≡ true) ↔ (first_of (codes "buffer") rows ≡ Some (codes "true"))
 
 -- the most bytes of a packet: 64 to 512, and 64 without the option
 abbrev pub IsSizeArgument : ℕ → Option Text → Type 0

@@ -8,7 +8,7 @@ ghost use Rattle.swd_words.specs.Commands.{AreProbeArguments, IsSizeArgument};
 use crate::argument::{Argument, CommandRow, Form};
 use crate::fault::LineFault;
 use crate::memory_words::{BASE, is_missing, memory_line};
-use crate::words::{HEX_FORM, PLAN, TRACE, refused, text_in, unfit, value_in};
+use crate::words::{HEX_FORM, PLAN, TRACE, is_set, refused, text_in, unfit, value_in};
 use clap::ArgMatches;
 use clap::error::ErrorKind;
 use std::alloc::Global;
@@ -39,6 +39,12 @@ pyOCD and probe-rs look for an access port by its IDR. With --idr 04770031 the
 target has an AHB-AP and no ROM table: AP bank F reads WORD at address c, and
 BASE, at 8, reads ffffffff. Otherwise both read 0.
 
+With --buffer the debug port has a write buffer: a transfer that it accepted
+waits until the next request that may wait. Where DPIDR or CTRL/STAT is read or
+ABORT is written before that, a write is discarded, and WDATAERR set. One that
+still waits at the end is not made. A host that takes OK for a write for its end
+then reports words that never reached the memory.
+
 The log has a line for each transfer that took effect, and the numbers of cycles
 and requests. The trace has every bit on the line. Both are written during the
 session.
@@ -48,8 +54,8 @@ that the debugger asked for was written, 2 at an error.";
 
 const PROBE_AFTER: &str = "\
 Simulates a debug probe that speaks CMSIS-DAP, before the target of swd target:
-SCRIPT, --memory, the plan, the log, the trace and --idr are the same. The host
-is one of CMSIS-DAP, such as swd run --probe, pyOCD and OpenOCD.
+SCRIPT, --memory, the plan, the log, the trace, --idr and --buffer are the same.
+The host is one of CMSIS-DAP, such as swd run --probe, pyOCD and OpenOCD.
 
 Each packet has its length before it, in two bytes, the first least significant,
 and so has its reply, as with --framed of swd run. Over two fifos:
@@ -111,12 +117,19 @@ const SIZE: Argument = Argument {
     help: "Packet size that the host is told, 64 to 512; else 64",
 };
 
+// Whether the debug port has a write buffer.
+const BUFFER: Argument = Argument {
+    name: "buffer",
+    form: Form::Flag,
+    help: "The debug port has a write buffer",
+};
+
 /// The command `target`.
 pub(crate) const TARGET: CommandRow = CommandRow {
     name: "target",
     about: "Simulate a target for a debugger on the standard streams",
     after: Some(TARGET_AFTER),
-    arguments: &[SCRIPT, MEMORY, BASE, PLAN, LOG, TRACE, IDR],
+    arguments: &[SCRIPT, MEMORY, BASE, PLAN, LOG, TRACE, IDR, BUFFER],
 };
 
 /// The command `probe`.
@@ -124,7 +137,7 @@ pub(crate) const SIMULATED_PROBE: CommandRow = CommandRow {
     name: "probe",
     about: "Simulate a CMSIS-DAP probe and its target on the standard streams",
     after: Some(PROBE_AFTER),
-    arguments: &[SCRIPT, MEMORY, BASE, PLAN, LOG, TRACE, IDR, SIZE],
+    arguments: &[SCRIPT, MEMORY, BASE, PLAN, LOG, TRACE, IDR, BUFFER, SIZE],
 };
 
 // Returns the memory that the arguments name.
@@ -178,6 +191,7 @@ pub(crate) fn target_line(alloc: Global, matches: &ArgMatches<'_>) -> Result<Tar
         log,
         trace,
         idr,
+        buffers: is_set(matches, "buffer"),
         packet_size: None,
     })
 }

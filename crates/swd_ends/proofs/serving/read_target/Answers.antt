@@ -40,7 +40,8 @@ returns-clause-made g c =
       read = c.in-Ok.ensures.read;
       no_access = subst (λ batches. IsTargetEndScript (map script_batch_listed batches)) c.as_slice.ensures.value
           (c.is_bare.ensures.0 c.if-not-is_bare.false);
-      made = subst (λ (m : Bus). IsTargetEndMade script_device_bus m marks c.args.idr c.target_pins.result.target)
+      made = subst (λ (m : Bus). IsTargetEndMade script_device_bus m marks c.args.idr c.args.buffers
+          c.target_pins.result.target)
           c.in-Some.ensures
           pins.made;
       rests = pins.rests;

@@ -17,7 +17,8 @@ returns-in-Ok g c =
         c.in-Ok.ensures.none,
         subst (λ m. ServesBytes g.row.A.Denot c.serve_held.result (g.I.Read.remaining c.args.input.now)
             (g.I.Read.remaining c.serve_held.new.input) (g.O.Write.contents c.args.output.now)
-            (g.O.Write.contents c.serve_held.new.output) c.args.target.now.idr c.args.target.now.packet_size
+            (g.O.Write.contents c.serve_held.new.output) c.args.target.now.idr c.args.target.now.buffers
+            c.args.target.now.packet_size
             m.base held.bytes.items held.marks.items)
             same
             c.serve_held.ensures,

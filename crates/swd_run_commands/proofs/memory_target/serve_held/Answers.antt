@@ -7,7 +7,8 @@ pub returns : goal.returns
 returns g c =
     subst (λ l. ServesBytes g.row.A.Denot c.serve_session.result (g.I.Read.remaining c.args.input.now)
     (g.I.Read.remaining c.serve_session.new.input) (g.O.Write.contents c.args.output.now)
-    (g.O.Write.contents c.serve_session.new.output) c.args.target.now.idr c.args.target.now.packet_size
+    (g.O.Write.contents c.serve_session.new.output) c.args.target.now.idr c.args.target.now.buffers
+    c.args.target.now.packet_size
     c.args.held.memory.now.base l
     c.args.held.marks.items)
     c.as_slice-slice.ensures.value (inr (

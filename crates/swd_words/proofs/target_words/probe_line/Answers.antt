@@ -9,6 +9,7 @@ returns c = record {
     log = c.in_ok-target.ensures.arguments.log;
     trace = c.in_ok-target.ensures.arguments.trace;
     idr = c.in_ok-target.ensures.arguments.idr;
+    buffers = c.in_ok-target.ensures.arguments.buffers;
   };
   size = c.in_ok-size.size;
   packet_size = refl;

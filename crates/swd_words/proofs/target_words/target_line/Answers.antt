@@ -8,4 +8,5 @@ returns-clause-arguments c = record {
   log = c.in_ok-log.ensures;
   trace = c.in_ok-trace.ensures;
   idr = subst (IsIdrArgument c.in_ok-idr.idr) c.value_in.ensures c.in_ok-idr.ensures;
+  buffers = c.is_set.ensures;
 }

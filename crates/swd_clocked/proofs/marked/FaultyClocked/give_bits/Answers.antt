@@ -17,18 +17,18 @@ loop-place-init g c =
     let old = c.args.self.now in
     let r = frame_register old.clocked.frame in
     let got = port_flipped (port_flip_of old.mark) c.args.bits in
-    let x = open_frame_step g.D.Device.bus (Awaits r port_undriven 0) _ c.cycle.result old c.cycle.new.self
-    c.cycle.ensures.cycles
+    let x = open_frame_step g.D.Device.bus (Awaits r port_undriven 0) _ c.cycle_now.result old c.cycle_now.new.self
+    c.cycle_now.ensures.cycles
     c.requires.heard c.requires.frame tt in
-    let goes = cycles_move_frame_chain _ _ old old c.cycle.new.self
+    let goes = cycles_move_frame_chain _ _ old old c.cycle_now.new.self
     (no_cycle_moves_frame _ old c.requires.heard c.requires.frame)
     (x.turns.cycles.1.turn refl) x.keeps x.heard in (
       port_undriven,
       omega arith,
       record { equation = omega arith; small = omega arith },
       goes,
-      c.cycle.ensures.count,
-      contended_count_kept _ _ _ _ refl c.cycle.ensures.contended refl,
+      c.cycle_now.ensures.count,
+      contended_count_kept _ _ _ _ refl c.cycle_now.ensures.contended refl,
     )
 
 pub loop-place-preserved : goal.loop-place-preserved
@@ -38,7 +38,7 @@ loop-place-preserved g c =
     let got = port_flipped (port_flip_of start.mark) c.args.bits in
     let k = c.loop-place.place in
     let r = frame_register start.clocked.frame in
-    let cycle = c.cycle-in-loop-place in
+    let cycle = c.cycle_now-in-loop-place in
     let d = arriving_cycle_step g.D.Device.bus start.mark c.args.bits k r i.0 c.loop-place.rest cycle.result
     c.loop-place.self
     cycle.new.self i.3.keeps.mark i.1 cycle.ensures.cycles i.3.heard i.3.moved.frame in
@@ -61,7 +61,7 @@ returns-clause-brings g c =
     let got = port_flipped (port_flip_of start.mark) c.args.bits in
     let k = c.loop-place.place in
     let r = frame_register start.clocked.frame in
-    let cycle = c.cycle-2 in
+    let cycle = c.cycle_now-2 in
     let d = arriving_cycle_step g.D.Device.bus start.mark c.args.bits k r i.0 c.loop-place.rest cycle.result
     c.loop-place.self
     cycle.new.self i.3.keeps.mark i.1 cycle.ensures.cycles i.3.heard i.3.moved.frame in
@@ -83,6 +83,6 @@ returns-clause-clocks g c =
     let i = c.loop-place.invariant in
     let r = frame_register c.args.self.now.clocked.frame in (
       search rules,
-      contended_count_in_frame _ _ _ _ _ true i.5 c.cycle-2.ensures.contended i.3.moved.frame
+      contended_count_in_frame _ _ _ _ _ true i.5 c.cycle_now-2.ensures.contended i.3.moved.frame
           (awaits_frame_uncontended r i.0 c.loop-place.place true),
     )

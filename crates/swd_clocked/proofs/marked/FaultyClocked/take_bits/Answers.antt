@@ -31,15 +31,16 @@ loop-place-preserved g c =
     let sent = frame_bits start.clocked.frame in
     let got = port_flipped (port_flip_of start.mark) sent in
     let k = c.loop-place.place in
-    let d = driven_cycle_step g.D.Device.bus start.mark sent k c.cycle-bit.result c.loop-place.self c.cycle-bit.new.self
-    (clocked_mark_legal start.mark start.legal) c.loop-place-test.true i.1.keeps.mark c.cycle-bit.ensures.cycles
+    let d = driven_cycle_step g.D.Device.bus start.mark sent k c.cycle_now-bit.result c.loop-place.self
+    c.cycle_now-bit.new.self
+    (clocked_mark_legal start.mark start.legal) c.loop-place-test.true i.1.keeps.mark c.cycle_now-bit.ensures.cycles
     i.1.heard i.1.moved.frame in
     let shift = clocked_shift_takes_bit _ _ _ _ c.from.result i.0 (clocked_byte_bit _ _ _ c.from.ensures d.seen) in (
       subst (λ n. ClockedShifts (2 ^ 33) (got * 2 ^ 33) (k + 1) n (c.loop-place.bits / 2 + c.from.result * 2 ^ 32))
           (clocked_shift_halved got k) shift,
       cycles_move_frame_chain _ _ _ _ _ i.1 d.moved d.keeps d.heard,
-      cycles_counted_chain _ _ _ _ _ _ i.2 c.cycle-bit.ensures.count refl,
-      contended_count_kept _ _ _ _ i.3 c.cycle-bit.ensures.contended refl,
+      cycles_counted_chain _ _ _ _ _ _ i.2 c.cycle_now-bit.ensures.count refl,
+      contended_count_kept _ _ _ _ i.3 c.cycle_now-bit.ensures.contended refl,
     )
 
 pub returns-clause-bits : goal.returns-clause-bits
@@ -64,13 +65,13 @@ returns-clause-goes g c =
     let sent = frame_bits start.clocked.frame in
     let last : c.loop-place.place ≡ 33 = omega arith in
     let goes = subst (λ n. CyclesMoveFrame (Drives (sent / 2 ^ n) (33 - n)) start c.loop-place.self) last i.1 in
-    let x = open_frame_step g.D.Device.bus (Drives (sent / 2 ^ 33) 0) None c.cycle.result c.loop-place.self
-    c.cycle.new.self
-    c.cycle.ensures.cycles goes.heard goes.moved.frame tt in
+    let x = open_frame_step g.D.Device.bus (Drives (sent / 2 ^ 33) 0) None c.cycle_now.result c.loop-place.self
+    c.cycle_now.new.self
+    c.cycle_now.ensures.cycles goes.heard goes.moved.frame tt in
     cycles_move_frame_chain _ _ _ _ _ goes (x.turns.cycles.turn refl).1 x.keeps x.heard
 
 pub returns-clause-clocks : goal.returns-clause-clocks
 returns-clause-clocks g c = (
   search rules,
-  contended_count_kept _ _ _ _ c.loop-place.invariant.3 c.cycle.ensures.contended refl,
+  contended_count_kept _ _ _ _ c.loop-place.invariant.3 c.cycle_now.ensures.contended refl,
 )
