@@ -32,7 +32,7 @@ pub record IsTargetEndMade {D A : Type 0} (bus : D → Bus) (memory : Bus) (mark
   pub plan : marked_clocked_plan target ≡ marks
   pub asked : (marked_clocked_tally target).asked ≡ 0
   pub cycles : marked_clocked_cycles target ≡ 0
-  pub buffers : has_marked_clocked_buffer target ≡ buffers
+  pub buffered : has_marked_clocked_buffer target ≡ buffers
   pub given_up : marked_clocked_given_up target ≡ 0
 
 -- the pins before the host moved any

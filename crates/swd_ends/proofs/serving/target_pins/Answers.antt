@@ -10,7 +10,7 @@ use Rattle.swd_ends.proofs.serving.target_pins.Goals as goal
 
 pub returns-clause-made : goal.returns-clause-made
 returns-clause-made g c =
-    let target = c.new.ensures in
+    let target = c.new-target.ensures in
     let marks = c.args.plan.items in
     let bus = g.D.Device.bus in
     let differs = c.with_buffer.ensures in
@@ -24,16 +24,16 @@ returns-clause-made g c =
       plan = ap (λ (x : Plan _). plan_marks x) differs.keeps.plan ∙ target.plan;
       asked = ap (λ (x : Plan _). (plan_tally x).asked) differs.keeps.plan ∙ target.requests;
       cycles = ap (λ (x : Clocked _). x.cycles) clocked ∙ target.cycles;
-      buffers = differs.buffers;
+      buffered = differs.buffers;
       given_up = differs.given_up ∙ target.given_up;
     } in
     subst (λ (t : FaultyClocked _ _). IsTargetEndMade bus (bus c.args.device) marks c.args.idr c.args.buffers t)
-    (sym c.new-2.ensures.target)
+    (sym c.new.ensures.target)
     made
 
 pub returns-clause-rests : goal.returns-clause-rests
 returns-clause-rests g c =
-    let pins = c.new-2.ensures in
+    let pins = c.new.ensures in
     record {
       clock = pins.clock;
       level = pins.level;
