@@ -31,7 +31,11 @@ pub fn tell_session<E: Write, R, W>(errors: &mut E, status: u8, line: &RemoteStr
 /// Prints what an info with this status read of its target, or how far the session came.
 pub fn tell_info<E: Write, R, W>(errors: &mut E, status: u8, line: &RemoteStreams<R, W>) {
     if status != FAULT && !tell_no_reply(errors, line) {
-        let _ = write!(errors, "{}", Info(&line.opening));
+        let info = Info {
+            opening: &line.opening,
+            is_whole: status == DONE,
+        };
+        let _ = write!(errors, "{info}");
     }
 }
 
@@ -52,8 +56,11 @@ fn tell_no_reply<E: Write, R, W>(errors: &mut E, line: &RemoteStreams<R, W>) -> 
     true
 }
 
-// What is said of a target that was opened.
+// What is said of a target that was opened, and of one whose access port answered in an opening that ended early.
 const OPEN: &str = "debug power and system power are acknowledged: the target is open";
+
+const ANSWERED: &str =
+    "debug power and system power are acknowledged, and the access port answered";
 
 // Returns what is said of a word of CTRL/STAT that doesn't acknowledge both powers.
 fn missing_power(status: u32) -> Option<&'static str> {
@@ -113,7 +120,7 @@ impl Display for Power<'_> {
             }
             Some(status) => match missing_power(status) {
                 Some(missing) => write!(f, "{missing}: CTRL/STAT is {status:08x}"),
-                None if self.0.is_open => f.write_str(OPEN),
+                None if self.0.is_open => f.write_str(ANSWERED),
                 None => write!(
                     f,
                     "power is acknowledged; no access port answered: the last answer was {last}"
@@ -143,12 +150,16 @@ impl Display for Reached<'_> {
 
 // The lines of `swd info`: DPIDR by its fields, and what is known of the power; or that DPIDR wasn't read.
 #[derive(Clone, Copy)]
-struct Info<'a>(&'a Opening);
+struct Info<'a> {
+    opening: &'a Opening,
+    /// Whether the opening came to its end.
+    is_whole: bool,
+}
 
 impl Display for Info<'_> {
     fn fmt<W: fmt::Write>(&self, f: &mut Formatter<W>) -> fmt::Result {
-        let Some(dpidr) = self.0.dpidr else {
-            return writeln!(f, "swd: {}", Reached(self.0));
+        let Some(dpidr) = self.opening.dpidr else {
+            return writeln!(f, "swd: {}", Reached(self.opening));
         };
         let (designer, part) = (dpidr >> 1 & 0x7ff, dpidr >> 20 & 0xff);
         let (version, revision) = (dpidr >> 12 & 0xf, dpidr >> 28);
@@ -162,6 +173,10 @@ impl Display for Info<'_> {
             "swd: DPIDR {dpidr:08x}: designer {designer:03x}, part {part:02x}, "
         )?;
         writeln!(f, "version {version:x}, revision {revision:x}{minimal}")?;
-        writeln!(f, "swd: {}", Power(self.0))
+        if self.is_whole {
+            writeln!(f, "swd: {OPEN}")
+        } else {
+            writeln!(f, "swd: {}", Power(self.opening))
+        }
     }
 }

@@ -143,7 +143,8 @@ pub fn advice_on(ended: End) -> &'static str {
     match ended {
         End::Lost => ", see --resume",
         End::TriesOut => ", see --tries",
-        End::All | End::WrongId(_) | End::Confused => "",
+        End::Confused => ", see swd run --check",
+        End::All | End::WrongId(_) => "",
     }
 }
 
