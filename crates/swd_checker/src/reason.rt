@@ -117,11 +117,12 @@ impl Checker {
     }
 }
 
-// Returns the answer that is due.
+// Returns the answer that is due. A request that can't wait gets no WAIT.
 fn due_answer(world: World, tx: &Tx) -> Due {
     match world.due(tx.request) {
         Reply::Silent => Due::Silence,
         Reply::Faults => Due::Fault,
+        _ if world.register(tx.request).is_exempt() => Due::Okay,
         Reply::Okay | Reply::Waits => Due::OkayOrWait,
     }
 }

@@ -260,6 +260,15 @@ fn tell_run<E: Write>(without: Without, conformed: &Conformed<'_>, errors: &mut 
         let _ = writeln!(errors, "swd: a transfer at HOLE was no bus error");
     }
     tell_without(without, errors);
+    tell_rule(conformed, errors);
+}
+
+// Prints what the last requests were to reach, where the port broke a rule at one of them.
+fn tell_rule<E: Write>(conformed: &Conformed<'_>, errors: &mut E) {
+    if let Checked::Breaks(_) = &conformed.checked {
+        let rule = conformed.rule;
+        let _ = writeln!(errors, "swd: the last requests were for: {rule}");
+    }
 }
 
 // Prints why the run ended early, if it did, and from which rule on the port wasn't tried.
