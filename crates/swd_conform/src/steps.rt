@@ -25,7 +25,7 @@ send dpidr? reset dpidr
 first ctrl/stat? rdbuff? tar? abort=0? select=0?
 send reset 1
 
-# It is answered, and the flags are cleared.
+# A read of DPIDR behind a line reset is answered, and the flags are cleared.
 send reset dpidr ctrl/stat abort=1e ctrl/stat select=0
 
 # Without debug power an access port answers FAULT.
@@ -53,7 +53,7 @@ first select=f0 select=40 select=1 select=8 select=f select=ff0000f0
 send tar=memory tar rdbuff 1 tar ap-8 rdbuff tar=memory+4 csw=2 csw drw rdbuff ctrl/stat ctrl/stat select=0 \
     ctrl/stat tar csw rdbuff
 
-# So do reads of another access port, and writes of the last one, at which nothing is expected to stand.
+# Reads of another access port, and writes of the last one, leave the registers of bank 0.
 send tar=memory tar rdbuff select=1000000 csw tar ap-8 rdbuff ctrl/stat abort=1e select=0 tar csw rdbuff \
     select=ff000000 tar=memory+4 csw=2 csw rdbuff ctrl/stat abort=1e select=0 ctrl/stat tar csw rdbuff
 
@@ -61,8 +61,7 @@ send tar=memory tar rdbuff select=1000000 csw tar ap-8 rdbuff ctrl/stat abort=1e
 first select=1 select=8 select=f
 send 1 ctrl/stat ctrl/stat=0 ctrl/stat select=0 ctrl/stat tar rdbuff
 
-# A write at c of the debug port, and at 8 of the access port, has no effect. There, a port with 64-bit addresses has
-# their high half: it gets 0 alone.
+# A write at c of the debug port, or of 0 at 8 of the access port, the high half of long addresses, has no effect.
 send abort=1e tar=memory dp-c=f0 tar rdbuff ap-8 tar rdbuff ap-8=0 tar rdbuff ap-8 rdbuff
 
 # TAR has all 32 bits.
@@ -109,7 +108,7 @@ needs kilobyte
 send tar=kilobyte drw tar rdbuff tar=kilobyte drw=fresh tar rdbuff tar=kilobyte+4 drw=fresh ctrl/stat abort=1e \
     tar=kilobyte drw rdbuff tar=kilobyte+4 drw rdbuff ctrl/stat abort=1e
 
-# Before that end TAR increments, or not.
+# Before an end of a kilobyte TAR increments, or not.
 needs kilobyte
 first csw=23000012 csw=23000002
 send 1 tar=kilobyte-4 drw tar rdbuff tar=kilobyte-4 drw=fresh tar rdbuff tar=kilobyte-4 drw rdbuff csw=23000002 \
@@ -128,7 +127,7 @@ first drw=!9 tar=!1230 csw=!12000002 select=!f1 ctrl/stat=!0 abort=!1e dp-c=!1 a
 send 1 ctrl/stat dpidr rdbuff ctrl/stat abort=17 ctrl/stat rdbuff abort=8 ctrl/stat abort=1e tar csw rdbuff ctrl/stat \
     tar=memory drw rdbuff tar=memory
 
-# Between two transfers, too.
+# A write with wrong parity between two transfers has no effect, and sets WDATAERR.
 send tar=memory drw=c0ffee01 drw=!c0ffee02 ctrl/stat abort=1e tar rdbuff tar=memory drw drw=!c0ffee03 ctrl/stat \
     abort=1e tar=memory+4 drw=!c0ffee04 rdbuff abort=1e tar=memory drw drw rdbuff ctrl/stat
 
@@ -139,14 +138,14 @@ send tar=memory drw rdbuff tar=!1230 rdbuff abort=1e ctrl/stat resend ctrl/stat 
 first rdbuff resend csw drw tar=0 drw=5 csw=0 select=f0 ctrl/stat=0 dp-c=0
 send tar=memory drw=!33333333 1 ctrl/stat abort=1e ctrl/stat tar rdbuff tar=memory drw csw rdbuff ctrl/stat
 
-# While STICKYERR is set, too.
+# While STICKYERR is set each other request is refused, and has no effect.
 needs hole
 first drw drw=77777777
 second rdbuff resend csw tar=0 csw=0 select=f0 ctrl/stat=0 dp-c=0 ctrl/stat dpidr abort=4
 send tar=hole 1 2 ctrl/stat dpidr rdbuff resend select=0 ctrl/stat abort=1b ctrl/stat abort=1e ctrl/stat rdbuff \
     ctrl/stat tar=memory drw tar csw rdbuff
 
-# Transfers, too, once FAULT was seen.
+# Once FAULT was seen transfers are refused, and have no effect.
 needs hole
 first drw drw=77777777
 second drw drw=5
@@ -174,11 +173,11 @@ send abort=1e tar=memory drw=12121212 reset dpidr ctrl/stat tar csw rdbuff ctrl/
     tar=memory drw reset dpidr ctrl/stat rdbuff ctrl/stat reset dpidr ctrl/stat resend tar rdbuff abort=1e \
     tar=memory tar rdbuff reset dpidr ctrl/stat resend tar rdbuff
 
-# It leaves STICKYERR.
+# A line reset leaves STICKYERR.
 needs hole
 send abort=1e tar=hole drw rdbuff reset dpidr ctrl/stat rdbuff ctrl/stat abort=1e ctrl/stat
 
-# It leaves SELECT and WDATAERR, and silences the target.
+# A line reset leaves SELECT and WDATAERR, and silences the target up to a read of DPIDR.
 send abort=1e tar=memory select=f0 reset dpidr tar rdbuff tar=memory+4 select=0 tar rdbuff ctrl/stat abort=1e \
     select=1 reset dpidr ctrl/stat select=0 ctrl/stat tar=!1230 reset dpidr ctrl/stat rdbuff \
     abort=1e ctrl/stat reset rdbuff? reset dpidr ctrl/stat
