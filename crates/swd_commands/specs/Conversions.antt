@@ -57,7 +57,7 @@ abbrev pub command_status_of_check : Result Checked DecodeFault → ℕ
 command_status_of_check (Ok (Fits items from faults gaps)) = 0
 command_status_of_check (Ok (Breaks broken)) = 1
 command_status_of_check (Ok (Crowded place)) = 2
-command_status_of_check (Ok (Outside place)) = 2
+command_status_of_check (Ok (Outside place why)) = 2
 command_status_of_check (Err fault) = 2
 
 -- 0 if nothing stopped a conformance run, else 2
