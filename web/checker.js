@@ -50,6 +50,10 @@ function checker(lib, start, clean) {
   };
 }
 
+// Why a session leaves the model, in the words of swd_check's Leaving.
+const OVERRUN = "overrun detection may have acted";
+const SENT_ON = "data was sent behind a write that wasn't acknowledged";
+
 // Where a session leaves the model by overrun detection, as swd_check's Overrun has it.
 class Overrun {
   constructor(on, clean) { Object.assign(this, { on, clean, bank0: true, elsewhere: false }); }
@@ -72,6 +76,20 @@ class Overrun {
       this.bank0 = bank0 || !isStored && this.bank0;
       this.elsewhere = !bank0 || !isStored && this.elsewhere;
     }
+  }
+}
+
+// Where data may have been sent behind a write that wasn't acknowledged, as swd_check's Recent has it.
+class Unanswered {
+  constructor(clean) { Object.assign(this, { clean, isLost: false, isSent: false }); }
+  // Takes a record. Returns whether it is a line reset behind such a write and further bits.
+  ends(kind, head, answer) {
+    const ends = kind === RESET && this.isLost && this.isSent;
+    if (kind === TRANSACTION)
+      Object.assign(this, { isLost: !this.clean && !(head & 2) && !ANSWERS[answer], isSent: false });
+    this.isLost = this.isLost && kind !== RESET;
+    this.isSent = this.isSent || kind === JUNK || kind === SKIP;
+    return ends;
   }
 }
 
@@ -114,22 +132,25 @@ function watchRecord(check, items, record, kind) {
 // gap.
 async function judge(lib, items, { start, clean, overrun }, stopped) {
   const check = checker(lib, STARTS[start], Number(clean)), detection = new Overrun(overrun, clean);
-  let outside = -1, isOutside = false, isHidden = false, until = performance.now() + 40;
+  const unanswered = new Unanswered(clean);
+  let outside = -1, why = "", isOutside = false, isHidden = false, until = performance.now() + 40;
   for (let record = 0; record < items.records; record++) {
     const place = items.from[record], is = items.kind[record];
     isHidden = is === TRANSACTION ? isInGap(items, record) : isHidden && is === IDLE;
     const kind = isHidden ? SKIP : is;
     const leaves = kind === TRANSACTION
       && detection.leaves(items.head[record], items.answer[record], items.word[record]);
+    const ends = unanswered.ends(kind, items.head[record], items.answer[record]);
     isOutside = isOutside && kind !== RESET;
-    if (leaves && !isOutside) {
-      isOutside = true;
-      outside = outside < 0 ? place : outside;
+    if (ends || leaves && !isOutside) {
+      isOutside = leaves;
+      if (outside < 0)
+        [outside, why] = [place, ends ? SENT_ON : OVERRUN];
       for (let i = 0; i < GAP_BITS; i++)
         check.watch({ kind: JUNK }, place);
-    } else if (!isOutside || kind !== TRANSACTION) {
-      watchRecord(check, items, record, kind);
     }
+    if (!isOutside || kind !== TRANSACTION)
+      watchRecord(check, items, record, kind);
     if (record % 64 === 0 && performance.now() > until) {
       await pause();
       if (stopped())
@@ -145,7 +166,7 @@ async function judge(lib, items, { start, clean, overrun }, stopped) {
   if (crowded >= 0 && (outside < 0 || crowded < outside))
     return { kind: "crowded", place: crowded, line: `crowded @${crowded}` };
   if (outside >= 0)
-    return { kind: "outside", place: outside, line: `outside @${outside}: overrun detection may have acted` };
+    return { kind: "outside", place: outside, line: `outside @${outside}: ${why}` };
   return { kind: "fits", place: -1, line: `fits ${items.size}${began ? ` from @${began}` : ""}`
     + `${faults ? ` faults ${faults}` : ""}${gaps ? ` gaps ${gaps}` : ""}` };
 }
